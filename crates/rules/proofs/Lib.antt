@@ -1,0 +1,13 @@
+pub mod Alike
+pub mod Built
+pub mod Chains
+pub mod Downs
+pub mod Firsts
+pub mod Fits
+pub mod Headers
+pub mod Holds
+pub mod Invariant
+pub mod Passed
+pub mod Sums
+pub mod Takings
+pub mod Walks

@@ -1,0 +1,10 @@
+use mathlib.Core.Path.{_≡_}
+use mathlib.Core.List.{map}
+use Rattle.std.specs.Iters.{counting}
+use Rattle.std.specs.Of.Vec.{vec-items}
+use Rattle.rules.specs.Files.{held}
+use Rattle.rules.specs.Typed.{literal-in}
+use Rattle.rules.proofs.file.File.literals.Given as given
+
+abbrev pub Inv-loop-i : given.InvT-loop-i
+Inv-loop-i l = vec-items (l .literals) ≡ map (literal-in (held (l .self))) (counting 1 (l .i))

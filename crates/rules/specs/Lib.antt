@@ -1,0 +1,12 @@
+pub mod Faults
+pub mod Kinds
+pub mod Words
+pub mod Tables
+pub mod Chains
+pub mod First
+pub mod Files
+pub mod Linked
+pub mod Summaries
+pub mod Typed
+pub mod Taken
+pub mod Opens

@@ -1,0 +1,11 @@
+use mathlib.Core.Path.{ap₂}
+use mathlib.Core.Bool.{_||_}
+use Rattle.truth.specs.Wide.{allowing}
+use Rattle.truth.proofs.Bitwise.{bit-ones, bit-zero}
+use Rattle.truth.proofs.wide_form.WideForm.no.Needs as need
+
+pub ghost-result : need.ghost-result
+ghost-result c = (λ k h. ap₂ _||_ (bit-zero k) (bit-ones 64 k h), tt)
+
+pub returns : need.returns
+returns c = λ w. ap₂ allowing (bit-zero (w .at)) (bit-ones 64 (w .at) (w .below))
