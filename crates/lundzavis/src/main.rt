@@ -1,9 +1,11 @@
-// The command-line program: opens a rule file and shows what it holds, or says why it is refused.
+// The command-line program: opens a rule file and shows what it holds and how play starts, or says why it is refused.
 //
-// Nothing is decided here. The answer comes from the crate `rules`; this program reads files, prints, and puts faults into words.
+// Nothing is decided here. Answers come from the crates `rules` and `evaluate`; this program reads files, prints, and puts faults into
+// words.
 mod explain;
 mod files;
 mod naming;
+mod play;
 mod sample;
 mod show;
 
@@ -15,8 +17,8 @@ use std::env;
 use std::io;
 
 const USAGE: &str =
-    "usage: lundzavis            open the built-in worked rule file and show what it holds
-       lundzavis RULES      open the rule file RULES and show what it holds
+    "usage: lundzavis            open the built-in worked rule file and show what it holds and how play starts
+       lundzavis RULES      the same for the rule file RULES
        lundzavis help       print this
 
 The first line of output is `opened: ` and a summary, or `fault N layer L place P: ` and what is wrong.
@@ -53,7 +55,10 @@ fn main(rt: LibcRuntime) -> io::Result<()> {
 
 fn run(rt: &LibcRuntime, loaded: Loaded) -> io::Result<()> {
     match open(rt.alloc(), loaded.bytes()) {
-        Ok(rules) => show::show(rt, &rules),
+        Ok(rules) => {
+            show::show(rt, &rules)?;
+            play::show(rt, &rules)
+        }
         Err(Refusal::Faulty(fault)) => {
             tell(rt, loaded.fault(fault), loaded.bytes())?;
             Err(io::Error::from(io::ErrorKind::InvalidData))

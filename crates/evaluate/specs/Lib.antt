@@ -1,0 +1,12 @@
+pub mod Lists
+pub mod Program
+pub mod Model
+pub mod Evaluate
+pub mod Meanings
+pub mod Positions
+pub mod Levels
+pub mod Grids
+pub mod Index
+pub mod Indexing
+pub mod Showing
+pub mod Claims

@@ -1,0 +1,9 @@
+pub mod Sequences
+pub mod Truth
+pub mod Parts
+pub mod Marks
+pub mod Claims
+pub mod Stranded
+pub mod Example
+pub mod Bytes
+pub mod Faults

@@ -1,0 +1,9 @@
+pub mod Fills
+pub mod Followings
+pub mod Held
+pub mod Links
+pub mod Measures
+pub mod Reader
+pub mod Standing
+pub mod Stepping
+pub mod Takings

@@ -1,0 +1,11 @@
+pub mod Faults
+pub mod Words
+pub mod Typed
+pub mod Linked
+pub mod Readings
+pub mod Degrees
+pub mod First
+pub mod Paths
+pub mod Trees
+pub mod Taken
+pub mod Reads
