@@ -1,0 +1,4 @@
+pub mod Values
+pub mod Plays
+pub mod Claims
+pub mod Tables

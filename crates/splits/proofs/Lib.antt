@@ -1,0 +1,14 @@
+pub mod Counts
+pub mod Shapings
+pub mod Readings
+pub mod Stacks
+pub mod Opens
+pub mod Resumes
+pub mod Walkings
+pub mod SplitWords
+pub mod Standings
+pub mod Wholes
+pub mod Covers
+pub mod Draws
+pub mod Draftings
+pub mod Plains
