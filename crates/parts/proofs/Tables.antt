@@ -13,6 +13,9 @@ use Rattle.evaluate.specs.Evaluate.{Ops}
 use Rattle.property.specs.declared.properties.Property.{Property}
 use Rattle.property.specs.Reads.{recordsOf}
 use Rattle.property.specs.Trees.{Property as Tree}
+use Rattle.play.specs.declared.part.Part.{Part}
+use Rattle.play.specs.declared.part.Part.the-variants.{Base, Step}
+use Rattle.play.specs.Parts.{horizon-of}
 use Rattle.parts.specs.Tables.{tree-of}
 use Rattle.parts.specs.Values.{value, each-value}
 
@@ -46,3 +49,8 @@ module _ {V : Type 0} (o : Ops V) (R : Rules) (L : ℕ → List V) (test : Tree 
 
   pub rest-ends : (i : ℕ) (v : V) → length docket ≤ i → v ≡ rest-value v i
   rest-ends i v h = sym (ap (λ l. each-value o R L v (kept-by test (map tree-of l)) horizon) (drop-all i docket h))
+
+-- at most four levels lie ahead
+pub horizon-low : (part : Part) (n : ℕ) → n ≤ 3 → horizon-of part n < 5
+horizon-low Base n h = omega arith
+horizon-low Step n h = omega arith

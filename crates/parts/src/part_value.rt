@@ -1,23 +1,29 @@
 ghost use mathlib.Core.Path.{_≡_};
 ghost use mathlib.Core.List.{List, [], map};
 ghost use Prim.Native.Nat.{ℕ, _+_, _<_, _≤_};
-ghost use lib.ListN.{length};
+ghost use lib.ListN.{length, getD};
 ghost use denote.Ref.{name};
 ghost use Rattle.std.specs.shelf.Lists.{All, kept-by};
 ghost use Rattle.truth.specs.Forms.{Answers};
+ghost use Rattle.evaluate.specs.Evaluate.{look};
+ghost use Rattle.evaluate.specs.Grids.{row as row-of};
+ghost use Rattle.evaluate.specs.Indexing.{rulesIn, size};
+ghost use Rattle.evaluate.specs.Levels.{at-level};
 ghost use Rattle.evaluate.specs.Meanings.{meanings};
+ghost use Rattle.evaluate.specs.Positions.{does-at};
 ghost use Rattle.property.specs.declared.properties.Property.{Property};
 ghost use Rattle.property.specs.Reads.{Fits, recordsOf};
 ghost use Rattle.property.specs.Trees.{degree as degree-of};
 ghost use Rattle.play.specs.declared.part.Part.the-variants.{Base, Step};
 ghost use Rattle.play.specs.Parts.{may-assume, horizon-of};
-ghost use Rattle.parts.specs.Tables.{tree-of, Spacious, Kept-beside-table, Levels-in};
+ghost use Rattle.parts.specs.Tables.{tree-of, table-end, Spacious, Kept-beside-table, Levels-in};
 ghost use Rattle.parts.specs.Values.{value, each-value, part-value as part-value-of};
 use crate::moves::legality;
 use crate::table::ended_or;
 use crate::table::entry;
 use crate::table::fill;
 use evaluate::grid::Grid;
+use evaluate::indexed::Indexed;
 use play::part::assumes;
 use play::part::Part;
 use property::properties::Property;
@@ -107,4 +113,20 @@ pub fn part_value<T: TruthForm>(grid: &mut Grid<'_, T>, rules: &Rules, part: Par
         Part::Base => base_value(grid, rules, property),
         Part::Step => step_value(grid, rules, property, docket),
     }
+}
+
+// Evaluates the levels of a play from its inputs in the grid, which are the fluents of level 0 and the does atoms of each level, and
+// then the part on them.
+pub fn evaluate_part<T: TruthForm>(grid: &mut Grid<'_, T>, rules: Indexed<'_>, part: Part, property: &Property, docket: &[Property]) -> T
+    requires fits { ⌜ Fits (rulesIn rules) (recordsOf (now property)) ⌝ }
+    requires all { ⌜ All (λ (q : Property). Fits (rulesIn rules) (recordsOf q)) (now docket) ⌝ }
+    requires room { ⌜ Spacious (now (now grid .values)) ⌝ }
+    ensures value { λ r. ⌜ means r ≡ part-value-of (meanings neg conj disj) (rulesIn (rules .entry)) (at-level (meanings neg conj disj) (rulesIn (rules .entry)) (look (meanings neg conj disj) (map means (row-of (size (rules .entry)) (now (now (grid .entry) .values)) 0))) (λ j c. look (meanings neg conj disj) (map means (row-of (size (rules .entry)) (now (now (grid .entry) .values)) j)) (does-at (rulesIn (rules .entry)) c))) part (map tree-of (now (docket .entry))) (tree-of (now (property .entry))) ⌝ }
+    ensures kept { λ _. ⌜ ((i : ℕ) (d : T) → table-end ≤ i → getD (now (now (grid .exit) .values)) i d ≡ getD (now (now (grid .entry) .values)) i d) ⌝ }
+    ensures len { λ _. ⌜ length (now (now (grid .exit) .values)) ≡ length (now (now (grid .entry) .values)) ⌝ }
+    ensures lender { λ _. ⌜ name (now (grid .exit) .values) ≡ name (now (grid .entry) .values) ⌝ }
+{
+    let horizon = usize::from(part.horizon(property.degree()));
+    grid.play(rules, horizon);
+    part_value(grid, rules.rules, part, property, docket)
 }

@@ -280,20 +280,6 @@ module _ (closed : List ℕ → Bool) (inp : Inputs) (c₀ : List ℕ) where
               state = subst (λ x. State closed inp c₀ x at p y area room size-of (Some (o .at))) (sym dk) st;
             }
 
-      pub drafting-root : (i : ℕ) → over ≡ Some i → d ≡ 0 → (t : Tree) × (drawn closed inp c₀ ≡ made t) × (at ≡ size t) × (area ≡ bytes (file inp t 0 true) ++ replicate (size-of - 8 * size t) 0) × (c ≡ c₀)
-      drafting-root i e z =
-          let s = some-state i e in
-          let x = first-input inp + d in
-          let f : Drawing closed inp c₀ x i c [] = subst (λ j. Drawing closed inp c₀ x i c (stack j cs)) z (s .drawing) in
-          let a : at ≡ size (s .tree) = omega (arith, s .ends, f .1) in (
-            s .tree,
-            ap (drawn closed inp) (sym (f .0)) ∙ (ap (λ q. plain-from closed inp q c) (sym (f .2)) ∙ s .is),
-            a,
-            s .holds ∙ (ap (λ j. bytes (written closed inp c (stack j cs)) ++ (bytes (file inp (s .tree) i true) ++ replicate (size-of - 8 * at) 0)) z
-                ∙ (ap (λ j. bytes (file inp (s .tree) j true) ++ replicate (size-of - 8 * at) 0) (f .1) ∙ ap (λ j. bytes (file inp (s .tree) 0 true) ++ replicate (size-of - 8 * j) 0) a)),
-            f .0,
-          )
-
 -- The room that an area has.
 pub places-fit : (a : List ℕ) (room : ℕ) → room ≡ places a → (8 * room ≤ length a) × (room ≤ 65535)
 places-fit a room e = grind (arith, tells)
@@ -314,11 +300,3 @@ module _ (inp : Inputs) (n p room : ℕ) (r : room ≡ p) where
     g ∙ (ap (λ x. replicate x 0) f ∙ ap (area-after inp n p) (sym e)),
     ap (settings-after c₀) (sym e),
   )
-
-  pub exit-file : (l at : ℕ) (a c₀ c : List ℕ) (w : Drawn) (t : Tree) → w ≡ made t → at ≡ size t → at ≤ room → l ≡ n → a ≡ bytes (file inp t 0 true) ++ replicate (l - 8 * size t) 0 → c ≡ c₀ → (Ok (File at) ≡ drafted p w) × (a ≡ area-after inp n p w) × (c ≡ settings-after c₀ w)
-  exit-file l at a c₀ c w t e s h f g q =
-      let o = le-leb (size t) room (omega arith) in (
-        ap (λ x. Ok (File x)) s ∙ (sym (cond-true _ _ _ o) ∙ (ap (λ x. drafted x (made t)) r ∙ ap (drafted p) (sym e))),
-        g ∙ (ap (λ x. bytes (file inp t 0 true) ++ replicate (x - 8 * size t) 0) f ∙ (sym (cond-true _ _ _ o) ∙ (ap (λ x. area-after inp n x (made t)) r ∙ ap (area-after inp n p) (sym e)))),
-        q ∙ ap (settings-after c₀) (sym e),
-      )

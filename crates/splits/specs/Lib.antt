@@ -6,3 +6,4 @@ pub mod Walk
 pub mod Trees
 pub mod Coverage
 pub mod Plain
+pub mod Example

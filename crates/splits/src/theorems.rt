@@ -1,4 +1,5 @@
 ghost use Rattle.splits.specs.Coverage.{Tree-covers, Whole-excludes};
+ghost use Rattle.splits.specs.Example.{Worked};
 ghost use Rattle.splits.specs.Plain.{Plain-closes, Plain-shows, Plain-made, Draft-is-taken, Plain-is-small, Whole-counts};
 ghost use Rattle.splits.specs.Trees.{Walk-takes-whole};
 use crate::judge::Judge;
@@ -44,5 +45,12 @@ pub fn plain_is_small<J: Judge>(judge: &J) -> u8
     ensures counts { λ _. ⌜ Whole-counts ⌝ }
 {
     let _ = judge;
+    0
+}
+
+// A worked example: what the walk answers to three files, and the number of records of the whole split.
+pub fn worked_example() -> u8
+    ensures { λ _. ⌜ Worked ⌝ }
+{
     0
 }

@@ -11,7 +11,7 @@ use Rattle.splits.specs.Shapes.{inputs}
 use Rattle.splits.proofs.Counts.{branch-some, branch-few}
 use Rattle.splits.proofs.Shapings.{proper}
 use Rattle.splits.proofs.Stacks.{none}
-use Rattle.splits.proofs.Draftings.{drafting-starts, drafting-before, drafting-close, full-closed, full-split, drafting-shows, drafting-split-at, drafting-top, drafting-next, drafting-pop, drafting-root, some-state, places-fit, places-same, exit-small, exit-play, exit-file}
+use Rattle.splits.proofs.Draftings.{drafting-starts, drafting-before, drafting-close, full-closed, full-split, drafting-shows, drafting-split-at, drafting-top, drafting-next, drafting-pop, places-fit, places-same, exit-small, exit-play}
 use Rattle.splits.proofs.drafts.draft.Needs as need
 
 pub loop-over-holds : need.loop-over-holds
