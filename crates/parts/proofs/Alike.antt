@@ -75,14 +75,14 @@ module _ {V W : Type 0} (o : Ops V) (q : Ops W) (S : V → W → Type 0) (k : Ke
     moves-alike level u [] v w r = r
     moves-alike level u (c ∷ cs) v w r =
         moves-alike level u cs _ _ (k .and-kept v (undone-or-legal o R L level c) w (undone-or-legal q R M level c) r
-          (or-alike _ _ _ _ (n _ _ (same .below level (does-at R c) u)) (same .below level (legal-at R c) u)))
+        (or-alike _ _ _ _ (n _ _ (same .below level (does-at R c) u)) (same .below level (legal-at R c) u)))
 
     legality-alike : (left level : ℕ) → level + left ≤ H → (v over : V) (w done : W) → S v w → S over done → S (legality-from o R L v over level left) (legality-from q R M w done level left)
     legality-alike zero level u v over w done r s = r
     legality-alike (suc left) level u v over w done r s =
         let t = k .or-kept over (at o R L level (terminal-at R)) done (at q R M level (terminal-at R)) s (same .below level (terminal-at R) (omega arith)) in
         legality-alike left (level + 1) (omega arith) _ _ _ _
-          (k .and-kept v _ w _ r (k .or-kept _ (every-move o R L level) _ (every-move q R M level) t (moves-alike level (omega arith) (counting 0 (choices R)) _ _ (k .yes-kept)))) t
+        (k .and-kept v _ w _ r (k .or-kept _ (every-move o R L level) _ (every-move q R M level) t (moves-alike level (omega arith) (counting 0 (choices R)) _ _ (k .yes-kept)))) t
 
     each-alike : (qs : List Property) → All (Still-in R) qs → (v : V) (w : W) → S v w → S (each-value o R L v qs H) (each-value q R M w qs H)
     each-alike [] h v w r = r
@@ -122,8 +122,8 @@ module _ {V W : Type 0} (o : Ops V) (q : Ops W) (S : V → W → Type 0) (k : Ke
   cut-alike : (j c : ℕ) → c < choices R → S (cut o R start doing H j c) (cut q R s d H j c)
   cut-alike j c h =
       elim (cases-lt j H) [
-        inl l ↦ subst₂ S (sym (cond-true (ltb j H) _ _ (lt-ltb j H l))) (sym (cond-true (ltb j H) _ _ (lt-ltb j H l))) (moves j c l h)
-      | inr l ↦ subst₂ S (sym (cond-false (ltb j H) _ _ (le-ltb j H l))) (sym (cond-false (ltb j H) _ _ (le-ltb j H l))) (k .no-kept)
+        | inl l ↦ subst₂ S (sym (cond-true (ltb j H) _ _ (lt-ltb j H l))) (sym (cond-true (ltb j H) _ _ (lt-ltb j H l))) (moves j c l h)
+        | inr l ↦ subst₂ S (sym (cond-false (ltb j H) _ _ (le-ltb j H l))) (sym (cond-false (ltb j H) _ _ (le-ltb j H l))) (k .no-kept)
       ]
 
   level-is-alike : (j a : ℕ) → S (look o (at-level o R start (cut o R start doing H) j) a) (look q (at-level q R s (cut q R s d H) j) a)
@@ -142,4 +142,4 @@ module _ {V W : Type 0} (o : Ops V) (q : Ops W) (S : V → W → Type 0) (k : Ke
       → S (part-value o R (at-level o R start doing) part docket p) (part-value q R (at-level q R s d) part docket p)
   part-alike starts moves =
       broken-alike o q S k n R (horizon-of part (degree p)) _ _ (inputs-alike o q S k n R (horizon-of part (degree p)) start doing s d starts moves)
-        part (assumed p docket) p (all-kept (Still-in R) (λ r. may-assume (degree p) (degree r)) docket hs) h
+      part (assumed p docket) p (all-kept (Still-in R) (λ r. may-assume (degree p) (degree r)) docket hs) h

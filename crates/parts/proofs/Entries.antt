@@ -68,7 +68,7 @@ module _ {X : Type 0} (xs ys : List X) (level m : ℕ) (v : X) (above : 0 < m) (
       let inside : entry-at level m < length (map means xs) = omega (arith, length-map xs means) in
       ap (λ zs. look o (map means zs) (entry-at level k)) is ∙ ap (λ zs. look o zs (entry-at level k)) (map-set means xs (entry-at level m) v)
       ∙ elim (cases-eq k m) [
-          inl e ↦ ap (λ n. look o (set (map means xs) (entry-at level m) (means v)) (entry-at level n)) e
+        | inl e ↦ ap (λ n. look o (set (map means xs) (entry-at level m) (means v)) (entry-at level n)) e
             ∙ getD-set-same (map means xs) (entry-at level m) (means v) (o .no′) inside ∙ made ∙ ap (λ n. value o R L (reading-at rs n .whole) level left) (sym e)
         | inr ne ↦ getD-set-other (map means xs) (entry-at level m) (entry-at level k) (means v) (o .no′) (λ e. omega arith) ∙ filled k (omega arith) u
-        ]
+      ]

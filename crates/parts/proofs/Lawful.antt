@@ -20,7 +20,7 @@ use Rattle.parts.proofs.Reading.{values-are-marks}
 pub last-moves-do-not-matter : {V : Type 0} (o : Ops V) → Last-moves-do-not-matter o
 last-moves-do-not-matter o R start doing other part docket p hs h same =
     part-alike o o (λ u v. u ≡ v) (record { yes-kept = refl; no-kept = refl; and-kept = λ a b c d r t. cc; or-kept = λ a b c d r t. cc }) (λ u v e. ap (o .not′) e)
-      R start doing start other part docket p hs h (λ f l. refl) same
+    R start doing start other part docket p hs h (λ f l. refl) same
 
 no-yes : (v : Answers) → v ≡ only-no → Allows v true → ⊥
 no-yes v e a = subst (λ (u : Answers). Allows u true) e a
@@ -40,7 +40,7 @@ module _ {World : Type 0} {neg : Meaning World → Meaning World} {conj disj : M
   pub allowed : Marks-are-allowed o
   allowed R G reads w start doing part docket p hs h play e inputs =
       subst (λ (b : Bool). Allows (part-value o R (at-level o R start doing) part docket p w) b) (values-are-marks R G reads part docket p hs h play e)
-        (sound R w start doing (holds-in (play .start)) (made (play .joints)) part docket p hs h inputs)
+      (sound R w start doing (holds-in (play .start)) (made (play .joints)) part docket p hs h inputs)
 
   pub exact : Marks-are-exact o
   exact R G reads w start doing part docket p hs h play e inputs one =
@@ -49,4 +49,4 @@ module _ {World : Type 0} {neg : Meaning World → Meaning World} {conj disj : M
   pub unbroken : Closed-means-unbroken o
   unbroken R G reads w start doing part docket p hs h closed play inputs b =
       no-yes _ closed (subst (λ (c : Bool). Allows (part-value o R (at-level o R start doing) part docket p w) c) (marks-are-right (by-number G) part docket p play (b .is-play) .0 b)
-        (allowed R G reads w start doing part docket p hs h play (b .is-play .levels) inputs))
+      (allowed R G reads w start doing part docket p hs h play (b .is-play .levels) inputs))

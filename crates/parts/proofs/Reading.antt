@@ -46,21 +46,21 @@ legal-parts done L l c h t = absurd (omega arith)
 legal-parts (pick {n = n} m h j) L l c u t =
     let p = and-parts (L m) (legal-for j (λ i. L (n + i))) l in
     elim (cases-lt c n) [
-      inl i ↦
-        let e : c ≡ m = eqb-true c m (sym (cond-true (ltb c n) (eqb c m) (does j (c - n)) (lt-ltb c n i)) ∙ t) in
-        ap L e ∙ p .0
-    | inr i ↦
-        let e : c ≡ n + (c - n) = omega arith in
-        ap L e ∙ legal-parts j (λ i. L (n + i)) (p .1) (c - n) (omega arith) (sym (cond-false (ltb c n) (eqb c m) (does j (c - n)) (le-ltb c n i)) ∙ t)
+      | inl i ↦
+          let e : c ≡ m = eqb-true c m (sym (cond-true (ltb c n) (eqb c m) (does j (c - n)) (lt-ltb c n i)) ∙ t) in
+          ap L e ∙ p .0
+      | inr i ↦
+          let e : c ≡ n + (c - n) = omega arith in
+          ap L e ∙ legal-parts j (λ i. L (n + i)) (p .1) (c - n) (omega arith) (sym (cond-false (ltb c n) (eqb c m) (does j (c - n)) (le-ltb c n i)) ∙ t)
     ]
 
 pub legal-from : {ns : List ℕ} (A : Joint ns) (L : ℕ → Bool) → ((c : ℕ) → c < total ns → does A c ≡ true → L c ≡ true) → legal-for A L ≡ true
 legal-from done L h = refl
 legal-from (pick {n = n} m u j) L h =
     and-from (L m) (legal-for j (λ i. L (n + i))) (h m (omega arith) (cond-true (ltb m n) (eqb m m) (does j (m - n)) (lt-ltb m n u) ∙ eq-eqb m m refl))
-      (legal-from j (λ i. L (n + i)) (λ c l t.
-        let e : n + c - n ≡ c = omega arith in
-        h (n + c) (omega arith) (cond-false (ltb (n + c) n) (eqb (n + c) m) (does j (n + c - n)) (le-ltb (n + c) n (omega arith)) ∙ ap (does j) e ∙ t)))
+    (legal-from j (λ i. L (n + i)) (λ c l t.
+    let e : n + c - n ≡ c = omega arith in
+    h (n + c) (omega arith) (cond-false (ltb (n + c) n) (eqb (n + c) m) (does j (n + c - n)) (le-ltb (n + c) n (omega arith)) ∙ ap (does j) e ∙ t)))
 
 module _ (R : Rules) (L : ℕ → List Bool) (level : ℕ) where
   abbrev Lawful : ℕ → Type 0
@@ -86,8 +86,8 @@ module _ (R : Rules) (L : ℕ → List Bool) (level : ℕ) where
   true-moves zero b v e c l u = absurd (omega arith)
   true-moves (suc n) b v e c l u =
       elim (cases-eq b c) [
-        inl i ↦ subst Lawful i (true-clause _ _ (and-parts v _ (true-first n (b + 1) _ e) .1))
-      | inr i ↦ true-moves n (b + 1) _ e c (omega arith) (omega arith)
+        | inl i ↦ subst Lawful i (true-clause _ _ (and-parts v _ (true-first n (b + 1) _ e) .1))
+        | inr i ↦ true-moves n (b + 1) _ e c (omega arith) (omega arith)
       ]
 
 table : (v t e f r : Bool) → (v && ((t || e) || f)) && ((t || e) || r) ≡ v && (t || cond e true (f && r))
@@ -155,12 +155,12 @@ module _ (R : Rules) (G : Game Position (Joint (movesOf R))) (reads : Reads-stan
         let did : (c : ℕ) → c < choices R → look bool-ops (L level) (does-at R c) ≡ does A c = λ c h. ap (λ v. look bool-ops v (does-at R c)) e ∙ does-is S (does A) c h in
         let lawful : (c : ℕ) → look bool-ops (L level) (legal-at R c) ≡ look bool-ops (model-at S (does A)) (legal-at R c) = λ c. ap (λ v. look bool-ops v (legal-at R c)) e in
         both-up _ _
-          (λ t. legal-from A (λ c. look bool-ops (model-at S (does A)) (legal-at R c)) (λ c h u.
-            let i : c < choices R = omega arith in
-            sym (lawful c) ∙ true-moves R L level (choices R) 0 true t c (omega arith) (omega arith) (did c i ∙ u)))
-          (λ t. moves-true R L level (choices R) 0 true refl (λ c l h u.
-            let i : c < choices R = omega arith in
-            lawful c ∙ legal-parts A (λ c. look bool-ops (model-at S (does A)) (legal-at R c)) t c (omega arith) (sym (did c i) ∙ u)))
+        (λ t. legal-from A (λ c. look bool-ops (model-at S (does A)) (legal-at R c)) (λ c h u.
+        let i : c < choices R = omega arith in
+        sym (lawful c) ∙ true-moves R L level (choices R) 0 true t c (omega arith) (omega arith) (did c i ∙ u)))
+        (λ t. moves-true R L level (choices R) 0 true refl (λ c l h u.
+        let i : c < choices R = omega arith in
+        lawful c ∙ legal-parts A (λ c. look bool-ops (model-at S (does A)) (legal-at R c)) t c (omega arith) (sym (did c i) ∙ u)))
         ∙ sym (read S A .legal-is)
 
     legality-reads : (μ : List J) (v over : Bool) (S : Position) (level : ℕ) → Runs L level S μ → legality-from bool-ops R L v over level (length μ) ≡ v && (over || run-legal G′ S μ)
@@ -204,8 +204,8 @@ module _ (R : Rules) (G : Game Position (Joint (movesOf R))) (reads : Reads-stan
         let e = each-satisfied G′ qs S (run G′ S μ) in
         let f = satisfied G′ (following p) S (run G′ S μ) in
         ap₂ (λ a b. a && not b)
-          (each-reads qs hs _ μ S r ∙ ap₂ (λ a b. (a && b) && e) (legality-reads μ true false S 0 r) (value-reads p h μ S 0 r))
-          (value-reads (following p) h μ S 0 r)
+        (each-reads qs hs _ μ S r ∙ ap₂ (λ a b. (a && b) && e) (legality-reads μ true false S 0 r) (value-reads p h μ S 0 r))
+        (value-reads (following p) h μ S 0 r)
         ∙ and-assoc (l && x) e (not f) ∙ and-assoc l x (e && not f)
 
   -- the levels of a play
@@ -216,17 +216,18 @@ module _ (R : Rules) (G : Game Position (Joint (movesOf R))) (reads : Reads-stan
       e ∙ level-same bool-ops R _ _ _ _ (λ f h. refl) (λ c h. ap (λ j. doing j c) (sym z) ∙ d 0 c)
   runs-from L doing step (A ∷ μ) S level d e =
       let z : level + 0 ≡ level = omega arith in
-      let here : L level ≡ model-at S (does A) = e ∙ level-same bool-ops R _ _ _ _ (λ f h. refl) (λ c h. ap (λ j. doing j c) (sym z) ∙ d 0 c) in
-      ( here
-      , runs-from L doing step μ (G .next S A) (level + 1)
-          (λ j c. let i : level + 1 + j ≡ level + suc j = omega arith in ap (λ m. doing m c) i ∙ d (suc j) c)
-          (step level ∙ level-same bool-ops R _ _ _ _ (λ f h. ap (λ v. look bool-ops v (next-at R f)) here ∙ sym (read S A .next-is f h)) (λ c h. refl)) )
+      let here : L level ≡ model-at S (does A) = e ∙ level-same bool-ops R _ _ _ _ (λ f h. refl) (λ c h. ap (λ j. doing j c) (sym z) ∙ d 0 c) in (
+        here,
+        runs-from L doing step μ (G .next S A) (level + 1)
+            (λ j c. let i : level + 1 + j ≡ level + suc j = omega arith in ap (λ m. doing m c) i ∙ d (suc j) c)
+            (step level ∙ level-same bool-ops R _ _ _ _ (λ f h. ap (λ v. look bool-ops v (next-at R f)) here ∙ sym (read S A .next-is f h)) (λ c h. refl)),
+      )
 
   pub play-runs : (play : Play Position J) → Runs (played R play) 0 (play .start) (play .joints)
   unfolding from-first
   play-runs play =
       runs-from (played R play) (made (play .joints)) (λ j. rw add-one refl) (play .joints) (play .start) 0
-        (λ j c. let i : 0 + j ≡ j = omega arith in ap (λ m. made (play .joints) m c) i) refl
+      (λ j c. let i : 0 + j ≡ j = omega arith in ap (λ m. made (play .joints) m c) i) refl
 
 pub values-are-marks : Values-are-marks
 values-are-marks R G reads part docket p hs h play e =

@@ -40,12 +40,12 @@ module _ {V : Type 0} (o : Ops V) (R : Rules) (L : ℕ → List V) (test : Tree 
     pub rest-taken : (v : V) → test (tree-of q) ≡ true → rest-value (o .and′ v (value o R L (tree-of q) 0 horizon)) (i + 1) ≡ rest-value v i
     rest-taken v e =
         sym (ap (λ l. each-value o R L v (kept-by test (map tree-of l)) horizon) next-is
-          ∙ ap (λ l. each-value o R L v l horizon) (cond-true (test (tree-of q)) _ _ e))
+        ∙ ap (λ l. each-value o R L v l horizon) (cond-true (test (tree-of q)) _ _ e))
 
     pub rest-passed : (v : V) → test (tree-of q) ≡ false → rest-value v (i + 1) ≡ rest-value v i
     rest-passed v e =
         sym (ap (λ l. each-value o R L v (kept-by test (map tree-of l)) horizon) next-is
-          ∙ ap (λ l. each-value o R L v l horizon) (cond-false (test (tree-of q)) _ _ e))
+        ∙ ap (λ l. each-value o R L v l horizon) (cond-false (test (tree-of q)) _ _ e))
 
   pub rest-ends : (i : ℕ) (v : V) → length docket ≤ i → v ≡ rest-value v i
   rest-ends i v h = sym (ap (λ l. each-value o R L v (kept-by test (map tree-of l)) horizon) (drop-all i docket h))

@@ -35,7 +35,12 @@ pub fn ended<T: TruthForm>(grid: &Grid<'_, T>, rules: &Rules, level: usize) -> T
 }
 
 // Whether a move, counted from 0 by role and then by move, is not done or legal.
-fn undone_or_legal<T: TruthForm>(grid: &Grid<'_, T>, rules: &Rules, level: usize, choice: usize) -> T
+fn undone_or_legal<T: TruthForm>(
+    grid: &Grid<'_, T>,
+    rules: &Rules,
+    level: usize,
+    choice: usize,
+) -> T
     requires level { ⌜ level < 5 ⌝ }
     requires choice { ⌜ choice < choices (now rules) ⌝ }
     requires room { ⌜ Roomy (now (now grid .values)) ⌝ }

@@ -24,14 +24,19 @@ use crate::table::entry;
 use crate::table::fill;
 use evaluate::grid::Grid;
 use evaluate::indexed::Indexed;
-use play::part::assumes;
 use play::part::Part;
+use play::part::assumes;
 use property::properties::Property;
 use rules::opened::Rules;
 use truth::form::TruthForm;
 
 // The value of a property at level 0 of a play over a horizon.
-pub fn property_value<T: TruthForm>(grid: &mut Grid<'_, T>, rules: &Rules, property: &Property, horizon: usize) -> T
+pub fn property_value<T: TruthForm>(
+    grid: &mut Grid<'_, T>,
+    rules: &Rules,
+    property: &Property,
+    horizon: usize,
+) -> T
     requires fits { ⌜ Fits (now rules) (recordsOf (now property)) ⌝ }
     requires horizon { ⌜ horizon < 5 ⌝ }
     requires room { ⌜ Spacious (now (now grid .values)) ⌝ }
@@ -45,7 +50,14 @@ pub fn property_value<T: TruthForm>(grid: &mut Grid<'_, T>, rules: &Rules, prope
 }
 
 // All of a value and of those properties that the step of one of this degree assumes, at level 0.
-fn and_assumed<T: TruthForm>(grid: &mut Grid<'_, T>, rules: &Rules, degree: u8, docket: &[Property], horizon: usize, first: T) -> T
+fn and_assumed<T: TruthForm>(
+    grid: &mut Grid<'_, T>,
+    rules: &Rules,
+    degree: u8,
+    docket: &[Property],
+    horizon: usize,
+    first: T,
+) -> T
     requires fits { ⌜ All (λ (q : Property). Fits (now rules) (recordsOf q)) (now docket) ⌝ }
     requires horizon { ⌜ horizon < 5 ⌝ }
     requires room { ⌜ Spacious (now (now grid .values)) ⌝ }
@@ -80,7 +92,12 @@ fn base_value<T: TruthForm>(grid: &mut Grid<'_, T>, rules: &Rules, property: &Pr
 }
 
 // All of: the moves are legal, the property and each assumed one is satisfied, following-the-property is not.
-fn step_value<T: TruthForm>(grid: &mut Grid<'_, T>, rules: &Rules, property: &Property, docket: &[Property]) -> T
+fn step_value<T: TruthForm>(
+    grid: &mut Grid<'_, T>,
+    rules: &Rules,
+    property: &Property,
+    docket: &[Property],
+) -> T
     requires fits { ⌜ Fits (now rules) (recordsOf (now property)) ⌝ }
     requires all { ⌜ All (λ (q : Property). Fits (now rules) (recordsOf q)) (now docket) ⌝ }
     requires room { ⌜ Spacious (now (now grid .values)) ⌝ }
@@ -100,7 +117,13 @@ fn step_value<T: TruthForm>(grid: &mut Grid<'_, T>, rules: &Rules, property: &Pr
 }
 
 // The value of 'this play breaks the part', for a play whose levels stand in the grid. Only the table behind the rows is written.
-pub fn part_value<T: TruthForm>(grid: &mut Grid<'_, T>, rules: &Rules, part: Part, property: &Property, docket: &[Property]) -> T
+pub fn part_value<T: TruthForm>(
+    grid: &mut Grid<'_, T>,
+    rules: &Rules,
+    part: Part,
+    property: &Property,
+    docket: &[Property],
+) -> T
     requires fits { ⌜ Fits (now rules) (recordsOf (now property)) ⌝ }
     requires all { ⌜ All (λ (q : Property). Fits (now rules) (recordsOf q)) (now docket) ⌝ }
     requires room { ⌜ Spacious (now (now grid .values)) ⌝ }
@@ -117,7 +140,13 @@ pub fn part_value<T: TruthForm>(grid: &mut Grid<'_, T>, rules: &Rules, part: Par
 
 // Evaluates the levels of a play from its inputs in the grid, which are the fluents of level 0 and the does atoms of each level, and
 // then the part on them.
-pub fn evaluate_part<T: TruthForm>(grid: &mut Grid<'_, T>, rules: Indexed<'_>, part: Part, property: &Property, docket: &[Property]) -> T
+pub fn evaluate_part<T: TruthForm>(
+    grid: &mut Grid<'_, T>,
+    rules: Indexed<'_>,
+    part: Part,
+    property: &Property,
+    docket: &[Property],
+) -> T
     requires fits { ⌜ Fits (rulesIn rules) (recordsOf (now property)) ⌝ }
     requires all { ⌜ All (λ (q : Property). Fits (rulesIn rules) (recordsOf q)) (now docket) ⌝ }
     requires room { ⌜ Spacious (now (now grid .values)) ⌝ }

@@ -76,7 +76,14 @@ pub fn ended_or<T: TruthForm>(grid: &Grid<'_, T>, rules: &Rules, level: usize, l
 }
 
 // The value of a record at a level with so many levels left, by the entries of later records there and of all records a level later.
-fn record_value<T: TruthForm>(grid: &Grid<'_, T>, rules: &Rules, records: &[Record], number: u16, level: usize, left: usize) -> T
+fn record_value<T: TruthForm>(
+    grid: &Grid<'_, T>,
+    rules: &Rules,
+    records: &[Record],
+    number: u16,
+    level: usize,
+    left: usize,
+) -> T
     requires linked { ⌜ Linked (now records) ⌝ }
     requires few { ⌜ length (now records) ≤ 64 ⌝ }
     requires fits { ⌜ Fits (now rules) (now records) ⌝ }
@@ -101,7 +108,13 @@ fn record_value<T: TruthForm>(grid: &Grid<'_, T>, rules: &Rules, records: &[Reco
 }
 
 // Enters the records of a level, from the last to the first.
-fn fill_level<T: TruthForm>(grid: &mut Grid<'_, T>, rules: &Rules, records: &[Record], level: usize, left: usize)
+fn fill_level<T: TruthForm>(
+    grid: &mut Grid<'_, T>,
+    rules: &Rules,
+    records: &[Record],
+    level: usize,
+    left: usize,
+)
     requires linked { ⌜ Linked (now records) ⌝ }
     requires few { ⌜ length (now records) ≤ 64 ⌝ }
     requires fits { ⌜ Fits (now rules) (now records) ⌝ }

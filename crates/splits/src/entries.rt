@@ -3,9 +3,9 @@ ghost use Prim.Native.Nat.{_<_};
 ghost use Rattle.splits.specs.Inputs.{entries, first-input, branch-count, Is-choice, choice-entry};
 ghost use Rattle.splits.specs.Records.{Is-record, split-input, split-record};
 ghost use Rattle.splits.specs.Shapes.{inputs};
-use play::part::Part;
 use crate::records::Record;
 use crate::shape::Shape;
+use play::part::Part;
 
 impl Shape<'_> {
     pub fn entries(self) -> usize

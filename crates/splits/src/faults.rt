@@ -1,10 +1,10 @@
 ghost use mathlib.Core.Path.{_≡_};
 ghost use Rattle.splits.specs.Faults.{place-of, report-of};
 ghost use Rattle.splits.specs.declared.faults.WalkFault.the-variants.{OfRecord};
-use play::part::Part;
 use crate::records::RecordFault;
 use crate::records::RecordFaultDebug;
 use crate::records::RecordFaultPartialEq;
+use play::part::Part;
 use rules::faults::Report;
 
 // Why a split file is refused, with the place in bytes. A record's fault stays whole inside it.

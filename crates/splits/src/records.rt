@@ -4,9 +4,9 @@ ghost use lib.ListN.{length};
 ghost use Rattle.splits.specs.Inputs.{entries};
 ghost use Rattle.splits.specs.Records.{kind-of, number-of, level-of, closing, of-fluent, of-choice, record-at};
 ghost use Rattle.splits.specs.Shapes.{inputs};
-use play::part::Part;
 use crate::shape::Shape;
 use crate::words::word;
+use play::part::Part;
 
 // A record of a split file: it closes its case, or splits it by an open fluent or by a role's open choice at a level.
 #[derive(Clone, Copy, PartialEq, Eq, Debug)]

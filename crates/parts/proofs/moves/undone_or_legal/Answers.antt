@@ -16,6 +16,6 @@ returns g c L is =
     let m : c .from-3 .result ≡ choices R = c .from-3 .ensures ∙ ap (λ y. y .moves) (c .layout-layout .ensures) in
     c .or-2 .ensures
     ∙ ap₂ (t .disj)
-        (c .or .ensures ∙ ap₂ (t .disj) (fun-ext (c .no .ensures))
-          (c .not-undone .ensures ∙ ap (t .neg) (c .value-at .ensures L is ∙ ap (λ n. look o (L (c .args .level)) (2 * n + k)) f)))
-        (c .value-at-2 .ensures L is ∙ ap₂ (λ n m. look o (L (c .args .level)) (2 * n + m + k)) f₂ m)
+    (c .or .ensures ∙ ap₂ (t .disj) (fun-ext (c .no .ensures))
+    (c .not-undone .ensures ∙ ap (t .neg) (c .value-at .ensures L is ∙ ap (λ n. look o (L (c .args .level)) (2 * n + k)) f)))
+    (c .value-at-2 .ensures L is ∙ ap₂ (λ n m. look o (L (c .args .level)) (2 * n + m + k)) f₂ m)

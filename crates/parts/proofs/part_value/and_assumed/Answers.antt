@@ -42,22 +42,24 @@ loop-i-again g c =
     let h : i < length docket = omega arith in
     let asked : test (tree-of q) ≡ c .assumes .result = ap (may-assume (c .args .degree)) (sym (c .degree .ensures .tree)) ∙ sym (c .assumes .ensures) in
     elim (c .if-assumes .came) [
-      then-assumes w ↦
-        ( ap (λ G. G .values .name) (w .grid-is) ∙ w .property-value .ensures .lender ∙ inv .0
-        , ap (λ G. length (G .values .now)) (w .grid-is) ∙ w .property-value .ensures .len ∙ inv .1
-        , (λ j d out. ap (λ G. getD (G .values .now) j d) (w .grid-is) ∙ w .property-value .ensures .kept j d out ∙ inv .2 j d out)
-        , λ L levels.
+      | then-assumes w ↦ (
+        ap (λ G. G .values .name) (w .grid-is) ∙ w .property-value .ensures .lender ∙ inv .0,
+        ap (λ G. length (G .values .now)) (w .grid-is) ∙ w .property-value .ensures .len ∙ inv .1,
+        (λ j d out. ap (λ G. getD (G .values .now) j d) (w .grid-is) ∙ w .property-value .ensures .kept j d out ∙ inv .2 j d out),
+        λ L levels.
             let here = levels-kept (t .means) R L was xs (inv .1) (c .pre .room) (inv .2) H (c .pre .horizon) levels in
             ap (λ a. rest-value o R L test docket H (t .means a) (i + 1)) (w .all-is)
             ∙ ap (λ u. rest-value o R L test docket H u (i + 1)) (w .and-all .ensures ∙ ap (t .conj v) (w .property-value .ensures .value L here))
-            ∙ rest-taken o R L test docket H i q h (c .index-docket-i .is) v (asked ∙ w .if-assumes .taken) ∙ inv .3 L levels )
-    | else-assumes w ↦
-        ( ap (λ G. G .values .name) (w .grid-is) ∙ inv .0
-        , ap (λ G. length (G .values .now)) (w .grid-is) ∙ inv .1
-        , (λ j d out. ap (λ G. getD (G .values .now) j d) (w .grid-is) ∙ inv .2 j d out)
-        , λ L levels.
+            ∙ rest-taken o R L test docket H i q h (c .index-docket-i .is) v (asked ∙ w .if-assumes .taken) ∙ inv .3 L levels,
+      )
+      | else-assumes w ↦ (
+        ap (λ G. G .values .name) (w .grid-is) ∙ inv .0,
+        ap (λ G. length (G .values .now)) (w .grid-is) ∙ inv .1,
+        (λ j d out. ap (λ G. getD (G .values .now) j d) (w .grid-is) ∙ inv .2 j d out),
+        λ L levels.
             ap (λ a. rest-value o R L test docket H (t .means a) (i + 1)) (w .all-is)
-            ∙ rest-passed o R L test docket H i q h (c .index-docket-i .is) v (asked ∙ w .if-assumes .left) ∙ inv .3 L levels )
+            ∙ rest-passed o R L test docket H i q h (c .index-docket-i .is) v (asked ∙ w .if-assumes .left) ∙ inv .3 L levels,
+      )
     ]
 
 pub returns : need.returns

@@ -22,5 +22,5 @@ Inv-loop-i g l =
     × (length xs ≡ length was)
     × Kept-beside-table was xs
     × ((L : ℕ → List (t .World → Answers)) → Levels-in (t .means) R was L (l .horizon)
-      → rest-value o R L (λ q. may-assume n (degree q)) (l .docket) (l .horizon) (t .means (l .all)) (l .i)
-      ≡ rest-value o R L (λ q. may-assume n (degree q)) (l .docket) (l .horizon) (t .means (l .entry .all)) 0)
+    → rest-value o R L (λ q. may-assume n (degree q)) (l .docket) (l .horizon) (t .means (l .all)) (l .i)
+    ≡ rest-value o R L (λ q. may-assume n (degree q)) (l .docket) (l .horizon) (t .means (l .entry .all)) 0)

@@ -15,11 +15,11 @@ returns g c =
     let n : c .from-horizon .result ≡ degree (tree-of p) = c .from-horizon .ensures ∙ c .degree .ensures .tree in
     record {
       value = λ L levels.
-        let lower = subst (Levels-in (t .means) R (c .args .grid .now .values .now) L) (sym n) levels in
-        c .and-2 .ensures
-        ∙ ap₂ (t .conj)
-            (c .and .ensures ∙ ap₂ (t .conj) (fun-ext (c .yes .ensures)) (c .legality-legal .ensures L lower ∙ ap (legality o R L) n))
-            (c .not .ensures ∙ ap (t .neg) (e .value L lower ∙ ap (value o R L (tree-of p) 0) n));
+          let lower = subst (Levels-in (t .means) R (c .args .grid .now .values .now) L) (sym n) levels in
+          c .and-2 .ensures
+          ∙ ap₂ (t .conj)
+          (c .and .ensures ∙ ap₂ (t .conj) (fun-ext (c .yes .ensures)) (c .legality-legal .ensures L lower ∙ ap (legality o R L) n))
+          (c .not .ensures ∙ ap (t .neg) (e .value L lower ∙ ap (value o R L (tree-of p) 0) n));
       kept = e .kept;
       len = e .len;
       lender = e .lender;

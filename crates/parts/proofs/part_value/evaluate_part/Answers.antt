@@ -23,9 +23,9 @@ returns g c =
     let e = c .play .ensures in
     let f = c .part-value .ensures in
     let n : c .from-horizon .result ≡ horizon-of (c .args .part) (degree (tree-of (c .args .property .now))) =
-      c .from-horizon .ensures ∙ c .horizon .ensures ∙ ap (horizon-of (c .args .part)) (c .degree .ensures .tree) in
+    c .from-horizon .ensures ∙ c .horizon .ensures ∙ ap (horizon-of (c .args .part)) (c .degree .ensures .tree) in
     let low : c .from-horizon .result < 5 =
-      omega (arith, c .from-horizon .ensures, c .horizon .ensures, horizon-low (c .args .part) (c .degree .result) (c .degree .ensures .bound)) in
+    omega (arith, c .from-horizon .ensures, c .horizon .ensures, horizon-low (c .args .part) (c .degree .result) (c .degree .ensures .bound)) in
     record {
       value = f .value _ (λ k l. e .values k (subst (λ (m : ℕ). k ≤ m) (sym n) l));
       kept = λ i d h. f .kept i d (inr h) ∙ e .kept i d (λ k l a u p. omega (arith, few-atoms R)) (λ a u p. omega (arith, few-atoms R));

@@ -37,8 +37,8 @@ returns g c =
     let z : H - 0 ≡ H = omega arith in
     record {
       value = λ L levels.
-        c .entry .ensures ∙ c .fill .ensures .values L levels 0 (omega arith) (omega arith) 1 (omega arith) some
-        ∙ ap₂ (λ rs n. value o R L (property-of rs) 0 n) e z;
+          c .entry .ensures ∙ c .fill .ensures .values L levels 0 (omega arith) (omega arith) 1 (omega arith) some
+          ∙ ap₂ (λ rs n. value o R L (property-of rs) 0 n) e z;
       kept = c .fill .ensures .kept;
       len = c .fill .ensures .len;
       lender = c .fill .ensures .lender;

@@ -52,23 +52,23 @@ returns g c =
     let some : 1 ≤ length (c .records .result .now) = omega (arith, held-some p, ap length e) in
     record {
       value = λ L levels.
-        let lower = subst (Levels-in (t .means) R was L) (sym n₁) levels in
-        let here = levels-kept (t .means) R L was ys (f .len) (c .pre .room) (f .kept) (h + 1) low lower in
-        let filled = f .values L lower in
-        let holds : t .means (c .entry-holds .result) ≡ value o R L (tree-of p) 0 (d + 1) =
+          let lower = subst (Levels-in (t .means) R was L) (sym n₁) levels in
+          let here = levels-kept (t .means) R L was ys (f .len) (c .pre .room) (f .kept) (h + 1) low lower in
+          let filled = f .values L lower in
+          let holds : t .means (c .entry-holds .result) ≡ value o R L (tree-of p) 0 (d + 1) =
           c .entry-holds .ensures ∙ filled 0 (omega arith) (omega arith) 1 (omega arith) some ∙ ap₂ (λ rs k. value o R L (property-of rs) 0 k) e z in
-        let later : t .means (c .entry .result) ≡ value o R L (tree-of p) 1 d =
+          let later : t .means (c .entry .result) ≡ value o R L (tree-of p) 1 d =
           c .entry .ensures ∙ filled 1 (omega arith) (omega arith) 1 (omega arith) some ∙ ap₂ (λ rs k. value o R L (property-of rs) 1 k) e l in
-        let follows : t .means (c .ended-or-follows .result) ≡ value o R L (following (tree-of p)) 0 (d + 1) =
+          let follows : t .means (c .ended-or-follows .result) ≡ value o R L (following (tree-of p)) 0 (d + 1) =
           c .ended-or-follows .ensures L (here 0 (omega arith)) ∙ ap (ended-or o R L 0) later ∙ sym (ap (value o R L (following (tree-of p)) 0) s) in
-        let first = c .and-first .ensures
+          let first = c .and-first .ensures
           ∙ ap₂ (t .conj) (c .and .ensures ∙ ap₂ (t .conj) (fun-ext (c .yes .ensures)) (c .legality-legal .ensures L lower ∙ ap (legality o R L) n₁)) holds in
-        c .and-2 .ensures
-        ∙ ap₂ (t .conj)
-            (a .value L here
-            ∙ ap (λ k. each-value o R L (t .means (c .and-first .result)) (kept-by (λ q. may-assume k (degree q)) (map tree-of docket)) (h + 1)) (c .degree-degree .ensures .tree)
-            ∙ ap₂ (λ v k. each-value o R L v (kept-by (λ q. may-assume d (degree q)) (map tree-of docket)) k) first n₁)
-            (c .not .ensures ∙ ap (t .neg) follows);
+          c .and-2 .ensures
+          ∙ ap₂ (t .conj)
+          (a .value L here
+          ∙ ap (λ k. each-value o R L (t .means (c .and-first .result)) (kept-by (λ q. may-assume k (degree q)) (map tree-of docket)) (h + 1)) (c .degree-degree .ensures .tree)
+          ∙ ap₂ (λ v k. each-value o R L v (kept-by (λ q. may-assume d (degree q)) (map tree-of docket)) k) first n₁)
+          (c .not .ensures ∙ ap (t .neg) follows);
       kept = λ i x out. a .kept i x out ∙ f .kept i x out;
       len = a .len ∙ f .len;
       lender = a .lender ∙ f .lender;

@@ -19,10 +19,10 @@ Inv-loop-at g l =
     let rs = l .records in
     (l .at ≤ length rs)
     × ((R : Rules) (L : ℕ → List (t .World → Answers)) (left i : ℕ) → (0 < l .first → i < l .first)
-      → Filled-behind o (t .means) R rs L (l .grid .values .now) (l .level) left i
-      → (0 < l .at → i < l .at)
-      × (all-value o R L (t .means (l .all)) (reading-at rs (l .at) .operands) (l .level) left
-        ≡ all-value o R L (o .yes′) (reading-at rs (l .first) .operands) (l .level) left))
+    → Filled-behind o (t .means) R rs L (l .grid .values .now) (l .level) left i
+    → (0 < l .at → i < l .at)
+    × (all-value o R L (t .means (l .all)) (reading-at rs (l .at) .operands) (l .level) left
+    ≡ all-value o R L (o .yes′) (reading-at rs (l .first) .operands) (l .level) left))
 
 -- what is left of the records; 0 where the chain has ended
 abbrev pub μ-loop-at : given.MeasureT-loop-at

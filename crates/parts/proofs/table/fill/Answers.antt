@@ -27,20 +27,21 @@ loop-level-again g c =
     let low : k ≤ H = omega arith in
     let h : k < 5 = omega (arith, c .pre .horizon) in
     let beside : (i : ℕ) → (i < table-start) ⊎ (table-end ≤ i) → (i < entry-at k 1) ⊎ (entry-at (k + 1) 1 ≤ i) =
-      λ i out. elim out [ inl l ↦ inl (omega arith) | inr l ↦ inr (omega arith) ] in
-    ( e .lender ∙ inv .0
-    , e .len ∙ inv .1
-    , (λ i d out. e .kept i d (beside i out) ∙ inv .2 i d out)
-    , λ L levels j l u.
-        let filled = inv .3 L levels in
-        elim (cases-eq j k) [
-          inl same ↦
-            let own = e .values L (level-kept (t .means) R L was xs (inv .1) (c .pre .room) (λ i d w. inv .2 i d (inl w)) k h (levels k low))
-              (λ p. let up : k + 1 ≡ n = omega arith in
-                    let left : H - k - 1 ≡ H - n = omega arith in
-                    subst (λ a. Filled-behind o (t .means) R rs L xs a (H - k - 1) 0) (sym up)
-                      (subst (λ a. Filled-behind o (t .means) R rs L xs n a 0) (sym left) (filled n (omega arith) (omega arith)))) in
-            subst (λ a. Filled-behind o (t .means) R rs L ys a (H - a) 0) (sym same) own
-        | inr other ↦
-            other-level o (t .means) R rs L (c .pre .few) xs ys (e .len) room k j (H - j) 0 (omega (arith, c .pre .horizon)) other (e .kept) (filled j (omega arith) u)
-        ] )
+    λ i out. elim out [ inl l ↦ inl (omega arith) | inr l ↦ inr (omega arith) ] in (
+      e .lender ∙ inv .0,
+      e .len ∙ inv .1,
+      (λ i d out. e .kept i d (beside i out) ∙ inv .2 i d out),
+      λ L levels j l u.
+          let filled = inv .3 L levels in
+          elim (cases-eq j k) [
+            | inl same ↦
+                let own = e .values L (level-kept (t .means) R L was xs (inv .1) (c .pre .room) (λ i d w. inv .2 i d (inl w)) k h (levels k low))
+                (λ p. let up : k + 1 ≡ n = omega arith in
+                let left : H - k - 1 ≡ H - n = omega arith in
+                subst (λ a. Filled-behind o (t .means) R rs L xs a (H - k - 1) 0) (sym up)
+                (subst (λ a. Filled-behind o (t .means) R rs L xs n a 0) (sym left) (filled n (omega arith) (omega arith)))) in
+                subst (λ a. Filled-behind o (t .means) R rs L ys a (H - a) 0) (sym same) own
+            | inr other ↦
+                other-level o (t .means) R rs L (c .pre .few) xs ys (e .len) room k j (H - j) 0 (omega (arith, c .pre .horizon)) other (e .kept) (filled j (omega arith) u)
+          ],
+    )

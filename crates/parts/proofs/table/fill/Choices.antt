@@ -18,4 +18,4 @@ Inv-loop-level g l =
     × (length xs ≡ length was)
     × Kept-beside-table was xs
     × ((L : ℕ → List (t .World → Answers)) → Levels-in (t .means) R was L (l .horizon)
-      → Filled-from o (t .means) R (l .records) L xs (l .level) (l .horizon))
+    → Filled-from o (t .means) R (l .records) L xs (l .level) (l .horizon))

@@ -29,19 +29,20 @@ loop-i-again g c =
     let h : k < 5 = omega (arith, c .pre .level) in
     let above : 0 < i = omega arith in
     let within : i ≤ 64 = omega (arith, c .pre .few) in
-    let is : ys ≡ set xs (entry-at k i) v = c .enter .ensures .values ∙ ap (λ n. set xs (entry-at k n) v) m in
-    ( c .enter .ensures .lender ∙ inv .0
-    , enter-length xs ys k i v above within is ∙ inv .1
-    , (λ j d out. enter-kept xs ys k i v above within is j d out ∙ inv .2 j d out)
-    , λ L level later.
-        let filled = inv .3 L level later in
-        let here = level-kept (t .means) R L was xs (inv .1) (c .pre .room) (λ j d u. inv .2 j d (inl (omega arith))) k h level in
-        let next : 0 < left → Filled-behind o (t .means) R rs L xs (k + 1) (left - 1) 0 =
+    let is : ys ≡ set xs (entry-at k i) v = c .enter .ensures .values ∙ ap (λ n. set xs (entry-at k n) v) m in (
+      c .enter .ensures .lender ∙ inv .0,
+      enter-length xs ys k i v above within is ∙ inv .1,
+      (λ j d out. enter-kept xs ys k i v above within is j d out ∙ inv .2 j d out),
+      λ L level later.
+          let filled = inv .3 L level later in
+          let here = level-kept (t .means) R L was xs (inv .1) (c .pre .room) (λ j d u. inv .2 j d (inl (omega arith))) k h level in
+          let next : 0 < left → Filled-behind o (t .means) R rs L xs (k + 1) (left - 1) 0 =
           λ p. other-level o (t .means) R rs L (c .pre .few) was xs (inv .1) (c .pre .room) k (k + 1) (left - 1) 0 (omega (arith, c .pre .level)) (λ e. omega arith) (inv .2) (later p) in
-        enter-filled xs ys k i v above within is o (t .means) R rs L left (c .pre .few) h room
+          enter-filled xs ys k i v above within is o (t .means) R rs L left (c .pre .few) h room
           (c .record-value-v .ensures L here next (subst (λ n. Filled-behind o (t .means) R rs L xs k left n) (sym m) filled)
-            ∙ ap (λ n. value o R L (reading-at rs n .whole) k left) m)
-          filled )
+          ∙ ap (λ n. value o R L (reading-at rs n .whole) k left) m)
+          filled,
+    )
 
 pub returns : need.returns
 returns g c =

@@ -19,5 +19,5 @@ Inv-loop-i g l =
     × (length xs ≡ length was)
     × Kept-beside-level (l .level) was xs
     × ((L : ℕ → List (t .World → Answers)) → Level-in (t .means) R was L (l .level)
-      → (0 < l .left → Filled-behind o (t .means) R rs L was (l .level + 1) (l .left - 1) 0)
-      → Filled-behind o (t .means) R rs L xs (l .level) (l .left) (l .i))
+    → (0 < l .left → Filled-behind o (t .means) R rs L was (l .level + 1) (l .left - 1) 0)
+    → Filled-behind o (t .means) R rs L xs (l .level) (l .left) (l .i))

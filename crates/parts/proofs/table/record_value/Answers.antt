@@ -78,7 +78,7 @@ returns-then-left-eq0 g c L is later filled =
     let e : formula-at rs (c .args .number) ≡ Following i = ap (λ n. getD rs (n - 1) unused .formula) (sym (c .from .ensures)) ∙ c .in-Following .is in
     fun-ext (c .yes .ensures)
     ∙ sym (ap (λ q. value o R L q (c .args .level) (c .args .left)) (whole-by rs (c .pre .linked) (c .args .number) (Following i) (c .pre .above) (c .pre .within) e)
-      ∙ ap (value o R L (following (reading-at rs i .whole)) (c .args .level)) (c .if-left-eq0 .taken))
+    ∙ ap (value o R L (following (reading-at rs i .whole)) (c .args .level)) (c .if-left-eq0 .taken))
 
 pub returns-else-left-eq0 : need.returns-else-left-eq0
 returns-else-left-eq0 g c L is later filled =
@@ -93,4 +93,4 @@ returns-else-left-eq0 g c L is later filled =
     let s : c .args .left ≡ suc (c .args .left - 1) = omega arith in
     c .ended-or .ensures L is ∙ ap (ended-or o R L (c .args .level)) (c .entry-else-left-eq0 .ensures ∙ later some i (omega (arith, l .0)) (l .1))
     ∙ sym (ap (λ q. value o R L q (c .args .level) (c .args .left)) (whole-by rs (c .pre .linked) (c .args .number) (Following i) (c .pre .above) (c .pre .within) e)
-      ∙ ap (value o R L (following (reading-at rs i .whole)) (c .args .level)) s)
+    ∙ ap (value o R L (following (reading-at rs i .whole)) (c .args .level)) s)
