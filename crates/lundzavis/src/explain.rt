@@ -6,7 +6,7 @@ use std::alloc::AllocError;
 use std::alloc::Global;
 
 // The word at an offset in bytes.
-fn word(bytes: &[u8], place: usize) -> u16 {
+pub fn word(bytes: &[u8], place: usize) -> u16 {
     let high = bytes.get(place).copied().unwrap_or(0);
     let low = bytes.get(place.saturating_add(1)).copied().unwrap_or(0);
     u16::from(high) * 256 + u16::from(low)

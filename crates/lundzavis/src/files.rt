@@ -24,10 +24,15 @@ impl Loaded {
         self.bytes.as_slice()
     }
 
+    // How long the file is, also where only its beginning was read.
+    pub fn length(&self) -> usize {
+        usize::try_from(self.length).unwrap_or(self.bytes.len())
+    }
+
     // A fault whose place is the length names the length of the file, also where only its beginning was read.
     pub fn fault(&self, fault: Fault) -> Fault {
         match fault {
-            Fault::Length(read) => Fault::Length(usize::try_from(self.length).unwrap_or(read)),
+            Fault::Length(_) => Fault::Length(self.length()),
             other => other,
         }
     }
@@ -49,4 +54,10 @@ pub fn load(rt: &LibcRuntime, path: &str, limit: usize) -> io::Result<Loaded> {
         read
     };
     Ok(Loaded { bytes, length })
+}
+
+// Says that there is no memory for the value of a rule file.
+pub fn no_memory(rt: &LibcRuntime) -> io::Result<()> {
+    println!(rt, "error: not enough memory to open the rule file")?;
+    Err(io::Error::from(io::ErrorKind::OutOfMemory))
 }

@@ -1,3 +1,10 @@
+use crate::calls::Memories;
+use crate::calls::marks;
+use crate::calls::tried;
+use docket::opening::open;
+use play::part::Part;
+use std::io;
+
 // The worked rule file. A price is live or old; its feed makes a fresh tick or a late one, and a fresh tick makes it live, a late one old.
 pub static WORKED: [u8; 96] = [
     // version 1, 2 fluents, 1 role, 9 atoms, 4 rules, 2 literals
@@ -102,3 +109,182 @@ pub static WORKED: [u8; 96] = [
     0,
     0,
 ];
+
+// The second worked file: the first with one more rule, by which a price that is live and not old stays live.
+static SECOND: [u8; 112] = [
+    0,
+    1,
+    0,
+    2,
+    0,
+    1,
+    0,
+    9,
+    0,
+    5,
+    0,
+    4,
+    0,
+    2,
+    0,
+    0,
+    0,
+    2,
+    0,
+    0,
+    0,
+    0,
+    0,
+    0,
+    0,
+    0,
+    0,
+    1,
+    0,
+    1,
+    0,
+    1,
+    0,
+    1,
+    0,
+    1,
+    0,
+    2,
+    0,
+    0,
+    0,
+    1,
+    0,
+    0,
+    0,
+    0,
+    0,
+    1,
+    0,
+    0,
+    0,
+    1,
+    0,
+    0,
+    0,
+    3,
+    0,
+    1,
+    0,
+    0,
+    0,
+    4,
+    0,
+    1,
+    0,
+    0,
+    0,
+    0,
+    0,
+    5,
+    0,
+    1,
+    0,
+    0,
+    0,
+    2,
+    0,
+    0,
+    0,
+    0,
+    0,
+    0,
+    0,
+    0,
+    0,
+    0,
+    0,
+    3,
+    0,
+    5,
+    0,
+    0,
+    0,
+    0,
+    0,
+    6,
+    0,
+    0,
+    0,
+    0,
+    0,
+    1,
+    0,
+    0,
+    0,
+    4,
+    0,
+    2,
+    0,
+    1,
+    0,
+    0,
+];
+
+// Not both live and old.
+static NOT_BOTH: [u8; 24] = [
+    0,
+    2,
+    0,
+    2,
+    0,
+    0,
+    0,
+    3,
+    0,
+    3,
+    0,
+    0,
+    0,
+    1,
+    0,
+    1,
+    0,
+    4,
+    0,
+    1,
+    0,
+    2,
+    0,
+    0,
+];
+
+// Tries two plays on the second worked file against the step of 'not both live and old': from live, a fresh tick and a late one.
+pub fn trial(rt: &LibcRuntime) -> io::Result<()> {
+    let heap = rt.alloc();
+    let mut plays = vec![in heap; 0; 192]?;
+    for (place, byte) in [(0, 1), (2, 1), (96, 1), (98, 2)] {
+        if let Some(b) = plays.get_mut(place) {
+            *b = byte;
+        }
+    }
+    println!(
+        rt,
+        "the second worked file, step of 'not both live and old', plays 1 0 1 and 1 0 2:"
+    )?;
+    let Ok(docket) = open(heap, &SECOND) else {
+        return println!(rt, "error: the second worked file is refused");
+    };
+    let mut memories = Memories::new(heap)?;
+    match tried(
+        &docket,
+        Part::Step,
+        &NOT_BOTH,
+        plays.as_slice(),
+        &mut memories,
+    ) {
+        Ok(answer) => marks(
+            rt,
+            docket.rules().layout(),
+            Part::Step,
+            plays.as_slice(),
+            answer,
+        ),
+        Err(_) => println!(rt, "error: the trial of the worked plays is refused"),
+    }
+}

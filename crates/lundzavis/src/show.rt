@@ -24,7 +24,7 @@ fn plural(n: u16) -> &'static str {
     if n == 1 { "" } else { "s" }
 }
 
-fn summary(rt: &LibcRuntime, layout: Layout) -> io::Result<()> {
+pub fn summary(rt: &LibcRuntime, layout: Layout) -> io::Result<()> {
     let Layout {
         fluents,
         roles,
