@@ -1,4 +1,6 @@
 // Times opening and evaluation. What it measures goes to the error stream.
+#![tactic(auto)]
+
 mod evaluation;
 mod opening;
 mod words;

@@ -1,13 +1,10 @@
 -- Masks made bit by bit, from the highest down.
-use Rattle.std.proofs.Common.{◌≡◌, ℕ, zero, suc, ◌+◌, ◌-◌, ◌*◌, ◌/◌, ◌%◌, ◌^◌, ◌<◌, ◌≤◌, Bool, true, false, cond, ◌&&◌, eqb, ltb, sym, refl, ap, ◌∙◌, inl, inr, div-one, arith, pow_mono}
+use Rattle.std.proofs.Common.{◌≡◌, ℕ, zero, suc, ◌+◌, ◌-◌, ◌*◌, ◌/◌, ◌%◌, ◌^◌, ◌<◌, ◌≤◌, Bool, true, false, ◌&&◌, eqb, ltb, sym, refl, ap, ◌∙◌, ap₂, div-one, arith, pow_mono}
 use Rattle.std.proofs.lemmas.Nat.{pow-add, shr-shr}
-use Rattle.std.proofs.lemmas.Bool.{cases_eq, eqb-true, eq-eqb, lt-ltb, le-ltb}
+use Rattle.std.proofs.lemmas.Bool.{lt-ltb, le-ltb}
 use Rattle.truth.specs.Bit.{bit}
-use Rattle.truth.specs.Forms.{only_yes, only_no}
-use Rattle.truth.specs.Wide.{by_mask}
-use Rattle.truth.specs.Bitwise.{bit_zero}
-use Rattle.evaluate.specs.Claims.{just}
-use Rattle.evidence.specs.Plays.{flag}
+use Rattle.truth.proofs.Bitwise.{bit_zero}
+use Rattle.docket.specs.Plays.{flag}
 
 abbrev odd : ℕ → Bool
 odd x = eqb (x % 2) 1
@@ -68,35 +65,3 @@ masked_fits p count n mask h few m = let s = m.small in let q = pow_mono {i = co
 
 pub masked_ends : (p : ℕ → Bool) (count n mask : ℕ) → n ≡ 0 → Masked p count n mask → (k : ℕ) → bit mask k ≡ ltb k count && p k
 masked_ends p count n mask z m k = m.bits k ∙ ap (λ j. ltb j count && p j) (omega arith)
-
--- a mask's answers, world by world
-by_answer : (b : Bool) → cond b only_yes only_no ≡ just b
-by_answer true = refl
-by_answer false = refl
-
-pub mask_means : (mask : ℕ) (p : ℕ → Bool) → ((k : ℕ) → bit mask k ≡ p k) → by_mask mask ≡ (λ w. just (p w.at))
-mask_means mask p e = λ i w. (by_answer (bit mask w.at) ∙ ap just (e w.at)) i
-
--- a number is known by its lowest bit and its half
-odd_tells : (a b : ℕ) → bit a 0 ≡ bit b 0 → a / 2 ≡ b / 2 → a ≡ b
-odd_tells a b e h =
-    let q : odd a ≡ odd b = sym (ap odd (div-one a)) ∙ e ∙ ap odd (div-one b) in
-    elim (cases_eq (a % 2) 1) [
-      | inl x ↦ let y : b % 2 ≡ 1 = eqb-true (b % 2) 1 (sym q ∙ eq-eqb (a % 2) 1 x) in omega arith
-      | inr x ↦
-          let y : b % 2 ≡ 1 → ⊥ = λ z. x (eqb-true (a % 2) 1 (q ∙ eq-eqb (b % 2) 1 z)) in
-          omega arith
-    ]
-
--- A number below 2 ^ n is known by its n bits.
-pub bits_tell : (n a b : ℕ) → a < 2 ^ n → b < 2 ^ n → ((k : ℕ) → k < n → bit a k ≡ bit b k) → a ≡ b
-bits_tell zero a b h l same = omega arith
-bits_tell (suc n) a b h l same =
-    let q = pow-add 2 1 n in
-    let e : 1 + n ≡ suc n = omega arith in
-    let x : a < 2 ^ (1 + n) = rw e h in
-    let y : b < 2 ^ (1 + n) = rw e l in
-    odd_tells a b (same 0 (omega arith))
-    (bits_tell n (a / 2) (b / 2) (omega arith) (omega arith) (λ k i.
-    let up : (c : ℕ) → bit (c / 2) k ≡ bit c (suc k) = λ c. ap odd (shr-shr c 1 k) ∙ ap (bit c) (omega arith) in
-    up a ∙ same (suc k) (omega arith) ∙ sym (up b)))

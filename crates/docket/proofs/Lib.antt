@@ -1,5 +1,7 @@
 pub mod Bitmaps
+pub mod Choosing
+pub mod Inputs
+pub mod Spelling
 pub mod Lawful
 pub mod Standing
-pub mod Marks
-pub mod Answering
+pub mod Spelled

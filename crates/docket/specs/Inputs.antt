@@ -9,12 +9,16 @@ use Rattle.rules.specs.Opens.{moves_of}
 use Rattle.evaluate.specs.Claims.{just}
 use Rattle.evaluate.specs.Grids.{place}
 use Rattle.evaluate.specs.Positions.{fluents, choices, does_at}
-use Rattle.evidence.specs.Choices.{choice_of}
-use Rattle.evidence.specs.Plays.{byte_is, move_byte}
+use Rattle.docket.specs.Choices.{choice_of}
+use Rattle.docket.specs.Plays.{byte_is}
 
 -- the play starts with fluent f
 abbrev pub starting : List ℕ → (count f : ℕ) → Meaning Place
 starting bs count f w = just (nat_lt w.at count && byte_is bs f 1 w.at)
+
+-- where the move of a role at a level stands in a play
+abbrev pub move_byte : Rules → (level role : ℕ) → ℕ
+move_byte R level role = fluents R + R.layout.roles * level + role
 
 -- the play makes move c at a level
 abbrev pub doing : Rules → List ℕ → (count level c : ℕ) → Meaning Place

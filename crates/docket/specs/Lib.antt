@@ -3,6 +3,9 @@ pub mod Cleared
 pub mod Texts
 pub mod Truths
 pub mod Dockets
+pub mod Choices
+pub mod Plays
 pub mod Inputs
 pub mod Faults
 pub mod Trials
+pub mod Claims

@@ -1,16 +1,15 @@
 ghost use Rattle.std.specs.Prelude.{◌≡◌, length, IfOk};
 ghost use Rattle.truth.specs.Wide.{means};
 ghost use Rattle.docket.specs.Cleared.{Zeroed, AllNo, Blank};
-ghost use Rattle.docket.specs.Dockets.{contents_of};
-ghost use Rattle.docket.specs.Trials.{trial_answer, Tried};
+ghost use Rattle.docket.specs.Trials.{trial_fault, fault_in, Tried};
 
+use crate::cases::Case;
 use crate::clearing::{clear_cases, clear_values};
 use crate::dockets::Docket;
 use crate::faults::TrialFault;
 use crate::settings::Settings;
 use crate::trials::{Trial, try_plays};
 use play::part::Part;
-use splits::cases::Case;
 use truth::wide::Wide;
 
 // Tries up to 64 plays against a part of a property on this docket. Whatever the answer, the lent memories are cleared.
@@ -23,7 +22,7 @@ pub fn trial(
     values: &mut [Wide],
     cases: &mut [Case],
 ) -> Result<Trial, TrialFault>
-    ensures answer { result ≡ trial_answer (contents_of docket.now) part property.now plays.now (length settings.old) (length values.old) (length cases.old) }
+    ensures fault { fault_in result ≡ trial_fault docket.now part property.now plays.now (length settings.old) (length values.old) (length cases.old) }
     ensures tried { IfOk result (λ t. Tried docket.now part property.now plays.now t) }
     ensures settings { Zeroed settings.new }
     ensures values { AllNo means values.new }

@@ -1,7 +1,7 @@
 ghost use Rattle.std.specs.Prelude.{◌≡◌, length};
 ghost use Rattle.docket.specs.Cleared.{AllNo, Blank};
 
-use splits::cases::Case;
+use crate::cases::Case;
 use truth::form::TruthForm;
 
 // Puts every value back to no.

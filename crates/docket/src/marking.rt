@@ -1,4 +1,4 @@
-ghost use Rattle.std.specs.Prelude.{◌≡◌, ◌*◌, ◌<◌, ◌≤◌, length};
+ghost use Rattle.std.specs.Prelude.{◌≡◌, ℕ, ◌*◌, ◌<◌, ◌≤◌, false, length};
 ghost use Rattle.truth.specs.Bit.{bit};
 ghost use Rattle.truth.specs.Wide.{Place, means as wide_means};
 ghost use Rattle.rules.specs.Opens.{moves_of};
@@ -11,8 +11,8 @@ ghost use Rattle.play.specs.Parts.{Play, horizon_of};
 ghost use Rattle.parts.specs.Plays.{by_number};
 ghost use Rattle.parts.specs.Tables.{tree_of, Spacious};
 ghost use Rattle.docket.specs.Dockets.{trees_of};
-ghost use Rattle.evidence.specs.Plays.{Spells};
-ghost use Rattle.docket.specs.Trials.{value_in, marks_of, FirstMarked, MarksPlays};
+ghost use Rattle.docket.specs.Plays.{Spells};
+ghost use Rattle.docket.specs.Trials.{FirstMarked, MarksPlays};
 
 use crate::dockets::Docket;
 use crate::masks::plays_below;
@@ -38,8 +38,7 @@ fn judge(
     requires few { count ≤ 64 }
     requires long { 96 * count ≤ length plays.now }
     requires room { Spacious values.old }
-    ensures value { (w : Place) → w.at < count → wide_means result w ≡ just (value_in docket.now.rules part (trees_of docket.now) (tree_of property.now) plays.now w.at) }
-    ensures marks { (G : Game Position (Joint (moves_of docket.now.rules))) → ReadsStandardModel docket.now.rules G → (w : Place) → w.at < count → (play : Play Position (Joint (moves_of docket.now.rules))) → Spells docket.now.rules (horizon_of part (degree_of (tree_of property.now))) plays.now w.at play → wide_means result w ≡ just (marked (by_number G) part (trees_of docket.now) (tree_of property.now) play) }
+    ensures { (G : Game Position (Joint (moves_of docket.now.rules))) → ReadsStandardModel docket.now.rules G → (w : Place) → w.at < count → (play : Play Position (Joint (moves_of docket.now.rules))) → Spells docket.now.rules (horizon_of part (degree_of (tree_of property.now))) plays.now w.at play → wide_means result w ≡ just (marked (by_number G) part (trees_of docket.now) (tree_of property.now) play) }
 {
     let horizon = usize::from(part.horizon(property.degree()));
     put_plays(&docket.rules, plays, count, horizon, values);
@@ -52,7 +51,7 @@ fn judge(
 }
 
 // The plays that break the part, bit k for play k.
-pub(crate) fn mark(
+pub fn mark(
     docket: &Docket,
     part: Part,
     property: &Property,
@@ -64,15 +63,14 @@ pub(crate) fn mark(
     requires few { count ≤ 64 }
     requires long { 96 * count ≤ length plays.now }
     requires room { Spacious values.old }
-    ensures value { result ≡ marks_of (value_in docket.now.rules part (trees_of docket.now) (tree_of property.now) plays.now) count }
-    ensures marks { MarksPlays docket.now part (tree_of property.now) plays.now count result }
+    ensures { MarksPlays docket.now part (tree_of property.now) plays.now count result }
 {
     let broken = judge(docket, part, property, plays, count, values);
     broken.and(Wide::settled(plays_below(count))).may_be_yes()
 }
 
 // The first play whose bit is set.
-pub(crate) fn first_marked(marks: u64) -> Option<usize>
+pub fn first_marked(marks: u64) -> Option<usize>
     ensures { FirstMarked marks result }
 {
     for k in 0..64 {

@@ -1,6 +1,6 @@
 ghost use Rattle.std.specs.Prelude.{◌≡◌, ℕ, ◌+◌, ◌*◌, ◌^◌, ◌<◌, ◌≤◌, ◌&&◌, length, nat_lt};
 ghost use Rattle.truth.specs.Bit.{bit};
-ghost use Rattle.evidence.specs.Plays.{flag, play_byte, byte_is};
+ghost use Rattle.docket.specs.Plays.{flag, play_byte, byte_is};
 
 // The bytes of a play.
 pub const PLAY: usize = 96;
@@ -14,7 +14,7 @@ fn with_bit(mask: u64, low: bool) -> u64
 }
 
 // The plays, of so many, whose byte `at` is this one: bit k for play k.
-pub(crate) fn plays_with(plays: &[u8], count: usize, at: usize, byte: u16) -> u64
+pub fn plays_with(plays: &[u8], count: usize, at: usize, byte: u16) -> u64
     requires few { count ≤ 64 }
     requires inside { at < 96 }
     requires long { 96 * count ≤ length plays.now }
@@ -28,7 +28,7 @@ pub(crate) fn plays_with(plays: &[u8], count: usize, at: usize, byte: u16) -> u6
 }
 
 // The first so many plays.
-pub(crate) fn plays_below(count: usize) -> u64
+pub fn plays_below(count: usize) -> u64
     requires few { count ≤ 64 }
     ensures { (k : ℕ) → bit result k ≡ nat_lt k count }
 {

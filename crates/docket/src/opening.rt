@@ -1,11 +1,9 @@
 ghost use Rattle.std.specs.Prelude.{◌≡◌, [], length, IfOk};
 ghost use Rattle.rules.specs.Opens.{Opens};
-ghost use Rattle.evaluate.specs.Indexing.{indexed_rules};
-ghost use Rattle.docket.specs.Dockets.{rules_opened, properties_of, texts_of};
+ghost use Rattle.docket.specs.Dockets.{rules_opened, properties_of};
 
 use crate::dockets::Docket;
 use crate::texts::Text;
-use evaluate::indexed::Indexed;
 use evaluate::strata::Strata;
 use property::properties::Property;
 use property::reading::read;
@@ -54,7 +52,7 @@ fn empty_places(rules: &Rules) -> [Property; 16]
 // The empty docket of a rule file, or why there is none.
 pub fn open(heap: Global, bytes: &[u8]) -> Result<Docket, Refusal>
     ensures opens { Opens bytes.now (rules_opened result) }
-    ensures empty { IfOk result (λ docket. (docket.count ≡ 0) × (properties_of docket ≡ []) × (texts_of docket ≡ [])) }
+    ensures empty { IfOk result (λ docket. (docket.count ≡ 0) × (properties_of docket ≡ [])) }
 {
     let rules = rules::opening::open(heap, bytes)?;
     let strata = Strata::of(heap, &rules)?;
@@ -80,16 +78,6 @@ impl Docket {
         ensures { result.now ≡ self.now.rules }
     {
         &self.rules
-    }
-
-    // The rule file beside the index of its atoms by stratum.
-    pub fn indexed(&self) -> Indexed<'_>
-        ensures { indexed_rules result ≡ self.now.rules }
-    {
-        Indexed {
-            rules: &self.rules,
-            strata: &self.strata,
-        }
     }
 
     // The properties that stand, in their order.

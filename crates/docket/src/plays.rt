@@ -5,10 +5,10 @@ ghost use Rattle.evaluate.specs.Grids.{place, Roomy};
 ghost use Rattle.evaluate.specs.Positions.{fluents, choices, does_at};
 ghost use Rattle.docket.specs.Inputs.{starting, doing, BesideMoves, AllNoBeside};
 
+use crate::choices::choice_at;
 use crate::clearing::clear_values;
 use crate::masks::plays_with;
 use evaluate::grid::WIDTH;
-use evidence::choices::choice_at;
 use rules::opened::Rules;
 use truth::wide::Wide;
 
@@ -59,13 +59,7 @@ fn put_levels(rules: &Rules, plays: &[u8], count: usize, horizon: usize, values:
 }
 
 // The inputs of the plays, world k for play k; every other value is no.
-pub(crate) fn put_plays(
-    rules: &Rules,
-    plays: &[u8],
-    count: usize,
-    horizon: usize,
-    values: &mut [Wide],
-)
+pub fn put_plays(rules: &Rules, plays: &[u8], count: usize, horizon: usize, values: &mut [Wide])
     requires few { count ≤ 64 }
     requires long { 96 * count ≤ length plays.now }
     requires horizon { horizon ≤ 4 }

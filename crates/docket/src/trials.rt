@@ -1,6 +1,5 @@
 ghost use Rattle.std.specs.Prelude.{◌≡◌, length, IfOk};
-ghost use Rattle.docket.specs.Dockets.{contents_of};
-ghost use Rattle.docket.specs.Trials.{trial_answer, Tried};
+ghost use Rattle.docket.specs.Trials.{trial_fault, fault_in, Tried};
 
 use crate::dockets::Docket;
 use crate::faults::TrialFault;
@@ -19,7 +18,7 @@ pub struct Trial {
 }
 
 // The trial, with memories of so many settings and case records.
-pub(crate) fn try_plays(
+pub fn try_plays(
     docket: &Docket,
     part: Part,
     property: &[u8],
@@ -28,7 +27,7 @@ pub(crate) fn try_plays(
     values: &mut [Wide],
     cases: usize,
 ) -> Result<Trial, TrialFault>
-    ensures answer { result ≡ trial_answer (contents_of docket.now) part property.now plays.now settings (length values.old) cases }
+    ensures fault { fault_in result ≡ trial_fault docket.now part property.now plays.now settings (length values.old) cases }
     ensures tried { IfOk result (λ t. Tried docket.now part property.now plays.now t) }
 {
     check_memories(settings, values.len(), cases)?;

@@ -1,8 +1,8 @@
 // Lent memories one short, exact and longer; they are cleared whatever comes.
 use crate::samples::{SECOND, add_play, bytes_of, opened};
 use docket::calls::trial;
+use docket::cases::Case;
 use play::part::Part;
-use splits::cases::Case;
 use std::test::Fail;
 use truth::form::TruthForm;
 
@@ -27,9 +27,9 @@ fn memories(rt: HostRuntime) -> Result<(), Fail> {
         let mut settings = vec![in heap; 7; bytes]?;
         let mut values = vec![in heap; <truth::wide::Wide as TruthForm>::yes(); count]?;
         let mut cases = vec![in heap; Case {
-            at: 1,
-            input: 2,
-            branch: 3
+            input: 1,
+            branch: 2,
+            number: 3
         }; records]?;
         let answer = match trial(
             &docket,
@@ -51,7 +51,7 @@ fn memories(rt: HostRuntime) -> Result<(), Fail> {
             assert!(rt; value.may_be_yes() == 0);
         }
         for case in cases.iter() {
-            assert!(rt; *case == Case::ZERO);
+            assert!(rt; case.input == 0 && case.branch == 0 && case.number == 0);
         }
     }
     Ok(())

@@ -1,9 +1,9 @@
 // Rule files, properties and plays to try.
 use docket::calls::trial;
+use docket::cases::Case;
 use docket::dockets::Docket;
 use docket::opening::open;
 use play::part::Part;
-use splits::cases::Case;
 use std::alloc::Global;
 use std::test::Fail;
 use truth::form::TruthForm;

@@ -7,6 +7,8 @@
 // Proved: what the evaluation leaves in the grid is the definition by rounds at the meanings of the form, and nothing else is
 // touched; over yes and no that is the standard model, the least set stratum by stratum; every form that keeps the laws allows its
 // answers, and gives exactly them where the inputs are settled.
+#![tactic(auto)]
+
 mod bodies;
 pub mod claims;
 pub mod grid;

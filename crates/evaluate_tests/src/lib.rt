@@ -1,4 +1,6 @@
 // Tests of the evaluation: the worked files move by move, recursion, negation, open inputs, and 64 worlds at once.
+#![tactic(auto)]
+
 #[cfg(test)]
 mod forms;
 #[cfg(test)]

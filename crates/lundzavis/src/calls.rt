@@ -2,6 +2,7 @@
 use crate::files::Loaded;
 use crate::{call_faults, files, show};
 use docket::calls::trial;
+use docket::cases::Case;
 use docket::dockets::Docket;
 use docket::faults::TrialFault;
 use docket::opening::open;
@@ -9,7 +10,6 @@ use docket::trials::Trial;
 use play::part::Part;
 use rules::faults::Refusal;
 use rules::layout::Layout;
-use splits::cases::Case;
 use std::alloc::{AllocError, Global};
 use std::io;
 use truth::form::TruthForm;

@@ -3,6 +3,8 @@
 //
 // Nothing is decided here. Answers come from the crates `rules`, `evaluate` and `docket`; this program reads files, prints, and puts faults into
 // words.
+#![tactic(auto)]
+
 mod call_faults;
 mod calls;
 mod explain;

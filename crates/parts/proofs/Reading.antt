@@ -100,7 +100,7 @@ and_true : (a : Bool) → a ≡ a && true
 and_true true = refl
 and_true false = refl
 
-pub some_joint : (ns : List ℕ) → Moving ns → Joint ns
+some_joint : (ns : List ℕ) → Moving ns → Joint ns
 some_joint [] h = done
 some_joint (n ∷ ns) h = pick 0 (let l = leb-true 1 n (and_parts (leb 1 n) (leb n 32) (h 0 (omega arith))).0 in omega arith) (some_joint ns (λ r l. h (suc r) (omega arith)))
 

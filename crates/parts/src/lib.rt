@@ -7,6 +7,8 @@
 // changed. `claims` says what that value is: over yes and no it is the mark of the play, in any game that reads the standard model
 // of the rules, so it is yes exactly if the play breaks the part; at any form it allows the mark of every play that the inputs
 // allow, and over settled inputs it is exactly that mark; where it is no, no play that the inputs allow breaks the part.
+#![tactic(auto)]
+
 pub mod claims;
 pub mod moves;
 pub mod part_value;

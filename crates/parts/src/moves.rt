@@ -12,12 +12,7 @@ use rules::opened::Rules;
 use truth::form::TruthForm;
 
 // The value of an atom, counted from 0, at a level.
-pub(crate) fn value_at<T: TruthForm>(
-    grid: &Grid<'_, T>,
-    rules: &Rules,
-    level: usize,
-    atom: usize,
-) -> T
+pub fn value_at<T: TruthForm>(grid: &Grid<'_, T>, rules: &Rules, level: usize, atom: usize) -> T
     requires level { level < 5 }
     requires atom { atom < length (atoms_of rules.now) }
     requires room { Roomy grid.now.values.now }
@@ -27,7 +22,7 @@ pub(crate) fn value_at<T: TruthForm>(
 }
 
 // Whether play has ended at a level.
-pub(crate) fn ended<T: TruthForm>(grid: &Grid<'_, T>, rules: &Rules, level: usize) -> T
+pub fn ended<T: TruthForm>(grid: &Grid<'_, T>, rules: &Rules, level: usize) -> T
     requires level { level < 5 }
     requires room { Roomy grid.now.values.now }
     ensures { (L : ℕ → List (World → Answers)) → LevelIn means rules.now grid.now.values.now L level → means result ≡ EndedOf (meanings neg conj disj) rules.now L level }
@@ -57,7 +52,7 @@ fn undone_or_legal<T: TruthForm>(
 }
 
 // Whether every move at a level is not done or legal.
-pub(crate) fn every_move<T: TruthForm>(grid: &Grid<'_, T>, rules: &Rules, level: usize) -> T
+pub fn every_move<T: TruthForm>(grid: &Grid<'_, T>, rules: &Rules, level: usize) -> T
     requires level { level < 5 }
     requires room { Roomy grid.now.values.now }
     ensures { (L : ℕ → List (World → Answers)) → LevelIn means rules.now grid.now.values.now L level → means result ≡ every_move_of (meanings neg conj disj) rules.now L level }
@@ -71,7 +66,7 @@ pub(crate) fn every_move<T: TruthForm>(grid: &Grid<'_, T>, rules: &Rules, level:
 
 // Whether the moves of the run are legal: at each level below the horizon, play has ended at some level up to there, or every move
 // is not done or legal.
-pub(crate) fn legality<T: TruthForm>(grid: &Grid<'_, T>, rules: &Rules, horizon: usize) -> T
+pub fn legality<T: TruthForm>(grid: &Grid<'_, T>, rules: &Rules, horizon: usize) -> T
     requires horizon { horizon < 5 }
     requires room { Roomy grid.now.values.now }
     ensures { (L : ℕ → List (World → Answers)) → LevelsIn means rules.now grid.now.values.now L horizon → means result ≡ legality_of (meanings neg conj disj) rules.now L horizon }

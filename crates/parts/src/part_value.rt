@@ -25,7 +25,7 @@ use rules::opened::Rules;
 use truth::form::TruthForm;
 
 // The value of a property at level 0 of a play over a horizon.
-pub(crate) fn property_value<T: TruthForm>(
+pub fn property_value<T: TruthForm>(
     grid: &mut Grid<'_, T>,
     rules: &Rules,
     property: &Property,
@@ -111,7 +111,7 @@ fn step_value<T: TruthForm>(
 }
 
 // The value of 'this play breaks the part', for a play whose levels stand in the grid. Only the table behind the rows is written.
-pub(crate) fn part_value<T: TruthForm>(
+pub fn part_value<T: TruthForm>(
     grid: &mut Grid<'_, T>,
     rules: &Rules,
     part: Part,

@@ -22,7 +22,7 @@ const TABLE: usize = 6;
 const MOST_RECORDS: usize = 64;
 
 // The value of the record with this number at a level.
-pub(crate) fn entry<T: TruthForm>(grid: &Grid<'_, T>, level: usize, number: u16) -> T
+pub fn entry<T: TruthForm>(grid: &Grid<'_, T>, level: usize, number: u16) -> T
     requires level { level < 5 }
     requires above { 0 < number }
     requires within { number ≤ 64 }
@@ -62,7 +62,7 @@ fn all_entries<T: TruthForm>(grid: &Grid<'_, T>, records: &[Record], first: u16,
 }
 
 // Play has ended at a level, or what is said of the level after it.
-pub(crate) fn ended_or<T: TruthForm>(grid: &Grid<'_, T>, rules: &Rules, level: usize, later: T) -> T
+pub fn ended_or<T: TruthForm>(grid: &Grid<'_, T>, rules: &Rules, level: usize, later: T) -> T
     requires level { level < 5 }
     requires room { Roomy grid.now.values.now }
     ensures { (L : ℕ → List (World → Answers)) → LevelIn means rules.now grid.now.values.now L level → means result ≡ ended_or_of (meanings neg conj disj) rules.now L level (means later) }
@@ -128,12 +128,7 @@ fn fill_level<T: TruthForm>(
 }
 
 // Enters the records of all levels, from the horizon down.
-pub(crate) fn fill<T: TruthForm>(
-    grid: &mut Grid<'_, T>,
-    rules: &Rules,
-    records: &[Record],
-    horizon: usize,
-)
+pub fn fill<T: TruthForm>(grid: &mut Grid<'_, T>, rules: &Rules, records: &[Record], horizon: usize)
     requires linked { Linked records.now }
     requires few { length records.now ≤ 64 }
     requires fits { Fits rules.now records.now }

@@ -9,6 +9,8 @@
 // say of sequences, and that a play which breaks the base refutes the property; the mark of a play; that positions past a
 // property's degree do not matter; how following reads where play has ended; what is true where play is stuck; that a step which
 // assumed deeper properties would be unsound; and a worked example.
+#![tactic(auto)]
+
 pub mod bytes;
 pub mod faults;
 pub mod part;

@@ -5,6 +5,8 @@
 // exactly if each of its words is what it must be and no path from record 1 has more than three followings.
 // `Property` carries as an invariant that its links lead later and that its degree is known, so nothing above it checks a link again.
 // `degree` answers the most followings on a path from record 1, which is the degree of the property that the records stand for.
+#![tactic(auto)]
+
 mod degrees;
 pub mod faults;
 pub mod properties;

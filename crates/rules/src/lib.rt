@@ -3,6 +3,8 @@
 // `check` reads the bytes and allocates nothing. Its contract: for every list of bytes, the answer is the first fault in checking
 // order with its place, or none. `open` builds the typed value of a file that passed; only that may want memory.
 // `Rules` carries as an invariant all that was checked, so nothing above it checks an index, a stratum or a mark again.
+#![tactic(auto)]
+
 mod build;
 pub mod checks;
 mod conditions;

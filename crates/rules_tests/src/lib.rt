@@ -1,4 +1,6 @@
 // Tests of the rule-file reader: the worked files, each fault, and each limit from both sides.
+#![tactic(auto)]
+
 #[cfg(test)]
 mod files;
 #[cfg(test)]

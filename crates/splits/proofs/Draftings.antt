@@ -51,12 +51,6 @@ pub too_small : (inp : Inputs) (n room : ℕ) (w : Drawn) → room < needed w �
 too_small inp n room (made t) h = (sym (cond-false _ _ _ (lt-leb (size t) room h)), sym (cond-false _ _ _ (lt-leb (size t) room h)))
 too_small inp n room (shows m c) h = (sym (cond-false _ _ _ (lt-leb m room h)), refl)
 
--- it stands of equal settings and cases
-pub drafting_same : (closed : List ℕ → Bool) (inp : Inputs) (c₀ : List ℕ) (d at : ℕ) (c c' : List ℕ) (cs cs' : List Case) (area : List ℕ) (room type_size : ℕ) (over : Option ℕ) → c' ≡ c → cs' ≡ cs
-    → Drafting closed inp c₀ d at c cs area room type_size over → Drafting closed inp c₀ d at c' cs' area room type_size over
-drafting_same closed inp c₀ d at c c' cs cs' area room type_size over e f w =
-    subst (λ y. Drafting closed inp c₀ d at y cs' area room type_size over) (sym e) (subst (λ y. Drafting closed inp c₀ d at c y area room type_size over) (sym f) w)
-
 module _ (closed : List ℕ → Bool) (inp : Inputs) (c₀ : List ℕ) where
   length_written : (s : List Case) (d at : ℕ) (c : List ℕ) → Drawing closed inp c₀ d at c s → length (written closed inp c s) ≡ 4 * at
   length_written [] d at c w = omega (arith, w.1)

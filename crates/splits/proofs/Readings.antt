@@ -60,6 +60,9 @@ module _ (s : Inputs) (bs c : List ℕ) (i : ℕ) where
   pub told : (r : Record) (x : Option ℕ) → Ok r ≡ record_at s bs c i → x ≡ split_input s r → Ok x ≡ input_at s bs c i
   told r x e f = ap Ok f ∙ ap (λ a. then_on a (λ y. Ok (split_input s y))) e
 
+  pub fault_told : (x : RecordFault) → Err x ≡ record_at s bs c i → Err x ≡ input_at s bs c i
+  fault_told x e = ap (λ a. then_on a (λ y. Ok (split_input s y))) e
+
   -- a split is by an open input
   open_in : (r : Record) (k : ℕ) → Reads r → split_input s r ≡ Some k → IsInput s k × (get_or c k 0 ≡ 0)
   open_in Close k p e = let z : ◌≡◌ {A = ℕ} 0 1 = cc in let n : ⊥ = omega arith in absurd n

@@ -1,8 +1,8 @@
 -- What stands at each turn of the walk, and that each turn keeps it.
-use Rattle.std.proofs.Common.{◌≡◌, ℕ, zero, suc, ◌+◌, ◌-◌, ◌*◌, ◌/◌, ◌%◌, ◌<◌, ◌≤◌, Bool, true, false, cond, eqb, ltb, leb, List, [], ◌∷◌, length, get_or, set, Some, None, Ok, Err, Option, Result, sym, refl, ap, ◌∙◌, subst, ⊎_elim, arith}
+use Rattle.std.proofs.Common.{◌≡◌, ℕ, zero, suc, ◌+◌, ◌-◌, ◌*◌, ◌/◌, ◌%◌, ◌<◌, ◌≤◌, Bool, true, false, cond, eqb, ltb, List, [], ◌∷◌, length, get_or, set, Some, None, Ok, Err, Option, Result, sym, refl, ap, ◌∙◌, subst, arith}
 use Rattle.std.proofs.lemmas.List.{length-set, set-set, set-get_or, get_or-set_same}
 use Rattle.std.proofs.lemmas.Bool.Decides.{nat_tests}
-use Rattle.std.proofs.lemmas.Bool.{cond-true, eq-eqb, ne_eqb, le-leb, lt-leb, cases_lt}
+use Rattle.std.proofs.lemmas.Bool.{cond-true}
 use Rattle.splits.specs.Inputs.{Inputs, Proper, entries, branch_count}
 use Rattle.splits.specs.Records.{word, record_at, split_input}
 use Rattle.splits.specs.Walk.{then_on, next_checked, input_at, subtree, finished, walked, sized}
@@ -22,16 +22,6 @@ pub record Walking (closed : List ℕ → Bool) (inp : Inputs) (bs c₀ : List �
   pub behind : Below (length bs / 8) over
   pub standing : Standing inp (length bs / 8) c₀ c (stack d cs)
   pub to_come : pending closed inp bs (entries inp - d) c (stack d cs) i over ≡ walked closed inp bs c₀
-
--- it stands of equal settings and cases
-pub walking_same : (closed : List ℕ → Bool) (inp : Inputs) (bs c₀ : List ℕ) (d i : ℕ) (c c' : List ℕ) (cs cs' : List Case) (over : Option ℕ) → c' ≡ c → cs' ≡ cs
-    → Walking closed inp bs c₀ d i c cs over → Walking closed inp bs c₀ d i c' cs' over
-walking_same closed inp bs c₀ d i c c' cs cs' over e f w =
-    subst (λ y. Walking closed inp bs c₀ d i y cs' over) (sym e) (subst (λ y. Walking closed inp bs c₀ d i c y over) (sym f) w)
-
--- none is left of n where there are m
-pub none_left : (n m : ℕ) → eqb (n - m) 0 ≡ leb n m
-none_left n m = ⊎_elim (λ h. ne_eqb _ _ (λ z. omega arith) ∙ sym (lt-leb n m h)) (λ h. eq-eqb _ _ (omega arith) ∙ sym (le-leb n m h)) (cases_lt m n)
 
 -- a split is by an open input
 pub split_open : (inp : Inputs) (bs c : List ℕ) (i k : ℕ) → Ok (Some k) ≡ input_at inp bs c i → (k < entries inp) × (get_or c k 0 ≡ 0)

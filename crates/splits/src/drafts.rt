@@ -4,13 +4,13 @@ ghost use Rattle.splits.specs.Plain.{drawn, put, places, drafted, area_after, se
 ghost use Rattle.splits.specs.Records.{kind_of, number_of, level_of};
 ghost use Rattle.splits.specs.Shapes.{inputs};
 
-use crate::cases::{Case, settle};
+use crate::cases::Case;
 use crate::drafted::{Drafted, TooSmall};
 use crate::judge::Judge;
 use crate::records::Record;
 use crate::shape::Shape;
 
-pub fn clear(area: &mut [u8])
+fn clear(area: &mut [u8])
     ensures { area.new ≡ replicate (length area.old) 0 }
 {
     for b in area.iter_mut() {
@@ -74,7 +74,6 @@ pub fn draft<J: Judge>(
     clear(area);
     let room = room_of(area);
     let first = shape.first_input();
-    let end = shape.entries();
     let mut depth: usize = 0;
     let mut at: usize = 0;
     // the record whose subtree has just ended
@@ -82,22 +81,28 @@ pub fn draft<J: Judge>(
     loop {
         match over {
             None => {
-                let input = first + depth;
-                let closed = judge.is_closed(settings);
-                if !closed && input >= end {
-                    clear(area);
-                    return Ok(Drafted::Play);
-                }
-                if at >= room {
-                    clear(area);
-                    return Err(TooSmall {});
-                }
-                if closed {
+                if judge.is_closed(settings) {
+                    if at >= room {
+                        clear(area);
+                        return Err(TooSmall {});
+                    }
                     over = Some(at);
                     at += 1;
+                } else if first + depth >= shape.entries() {
+                    clear(area);
+                    return Ok(Drafted::Play);
                 } else {
-                    put_split(area, at, shape.split_record(input));
-                    settle(cases, settings, depth, Case::first(at, input));
+                    if at >= room {
+                        clear(area);
+                        return Err(TooSmall {});
+                    }
+                    put_split(area, at, shape.split_record(first + depth));
+                    cases[depth] = Case {
+                        at,
+                        input: first + depth,
+                        branch: 0,
+                    };
+                    settings[first + depth] = 1;
                     depth += 1;
                     at += 1;
                 }
@@ -106,16 +111,16 @@ pub fn draft<J: Judge>(
                 if depth == 0 {
                     return Ok(Drafted::File(at));
                 }
-                let mut top = cases[depth - 1];
-                if shape.is_last(top) {
+                let top = cases[depth - 1];
+                if top.branch + 1 < shape.branches(top.input) {
+                    link(area, i, at, room);
+                    cases[depth - 1].branch = top.branch + 1;
+                    settings[top.input] = top.branch + 2;
+                    over = None;
+                } else {
                     settings[top.input] = 0;
                     depth -= 1;
                     over = Some(top.at);
-                } else {
-                    link(area, i, at, room);
-                    top.branch += 1;
-                    settle(cases, settings, depth - 1, top);
-                    over = None;
                 }
             }
         }

@@ -1,9 +1,8 @@
-ghost use Rattle.std.specs.Prelude.{◌≡◌, ◌+◌, ◌<◌, nat_le};
+ghost use Rattle.std.specs.Prelude.{◌≡◌, ◌<◌};
 ghost use Rattle.splits.specs.Inputs.{entries, first_input, branch_count, IsChoice, choice_entry};
 ghost use Rattle.splits.specs.Records.{IsRecord, split_input, split_record};
 ghost use Rattle.splits.specs.Shapes.{inputs};
 
-use crate::cases::Case;
 use crate::records::Record;
 use crate::shape::Shape;
 use play::part::Part;
@@ -16,7 +15,7 @@ impl Shape<'_> {
     }
 
     // The entry of the first input in the plain order. The fluents are no inputs of a base.
-    pub(crate) fn first_input(self) -> usize
+    pub fn first_input(self) -> usize
         ensures { result ≡ first_input (inputs self.entry) }
     {
         match self.part {
@@ -26,26 +25,18 @@ impl Shape<'_> {
     }
 
     // How many branches the input at an entry has.
-    pub(crate) fn branches(self, input: usize) -> u8
+    pub fn branches(self, input: usize) -> u8
         ensures { result ≡ branch_count (inputs self.entry) input }
     {
         if input < self.fluents {
             2
         } else {
-            self.moves[(input - self.fluents) % self.moves.len()] as u8
+            self.moves[(input - self.fluents) % self.moves.len()]
         }
     }
 
-    // Whether a case record's branch is the last one of its input.
-    pub(crate) fn is_last(self, case: Case) -> bool
-        requires { case.branch < 255 }
-        ensures { result ≡ nat_le (branch_count (inputs self.entry) case.input) (case.branch + 1) }
-    {
-        case.branch + 1 >= self.branches(case.input)
-    }
-
     // The entry of a role's choice at a level.
-    pub(crate) fn choice(self, role: u16, level: u16) -> usize
+    pub fn choice(self, role: u16, level: u16) -> usize
         requires { IsChoice (inputs self) role level }
         ensures { result ≡ choice_entry (inputs self.entry) role level }
     {
@@ -53,7 +44,7 @@ impl Shape<'_> {
     }
 
     // The entry of the input that a record splits, if it splits one.
-    pub(crate) fn input(self, read: Record) -> Option<usize>
+    pub fn input(self, read: Record) -> Option<usize>
         requires { IsRecord (inputs self) read }
         ensures { result ≡ split_input (inputs self.entry) read }
     {
@@ -65,7 +56,7 @@ impl Shape<'_> {
     }
 
     // The record that splits the input at an entry.
-    pub(crate) fn split_record(self, input: usize) -> Record
+    pub fn split_record(self, input: usize) -> Record
         requires { input < entries (inputs self) }
         ensures { result ≡ split_record (inputs self.entry) input }
     {

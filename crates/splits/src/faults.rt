@@ -30,7 +30,7 @@ impl From<RecordFault> for WalkFault {
 }
 
 impl RecordFault {
-    pub(crate) fn place(self) -> usize
+    pub fn place(self) -> usize
         ensures { result ≡ place_of self }
     {
         match self {

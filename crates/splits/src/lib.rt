@@ -5,6 +5,8 @@
 // in walk order with its place. `draft` writes the plain file, or shows a settled case that is not closed.
 // The theorems: a whole tree covers every full setting of the inputs; the walk takes what the draft writes; the plain order
 // finds a tree if every settled case is closed, with at most as many records as the whole split.
+#![tactic(auto)]
+
 pub mod cases;
 pub mod drafted;
 pub mod drafts;

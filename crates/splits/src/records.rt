@@ -19,7 +19,7 @@ pub enum Record {
 
 // The words of a record, but for its next.
 impl Record {
-    pub(crate) fn kind(self) -> u16
+    pub fn kind(self) -> u16
         ensures { result ≡ kind_of self }
     {
         match self {
@@ -29,7 +29,7 @@ impl Record {
         }
     }
 
-    pub(crate) fn number(self) -> u16
+    pub fn number(self) -> u16
         ensures { result ≡ number_of self }
     {
         match self {
@@ -39,7 +39,7 @@ impl Record {
         }
     }
 
-    pub(crate) fn level(self) -> u16
+    pub fn level(self) -> u16
         ensures { result ≡ level_of self }
     {
         match self {
@@ -105,7 +105,7 @@ fn read_choice(bytes: &[u8], i: usize, shape: Shape, settings: &[u8]) -> Result<
 }
 
 // Record `i` of the file, counted from 0, in the case that the settings are.
-pub(crate) fn read_record(
+pub fn read_record(
     bytes: &[u8],
     i: usize,
     shape: Shape,

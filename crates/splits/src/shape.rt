@@ -8,7 +8,7 @@ use play::part::Part;
 pub struct Shape<'a> {
     pub fluents: usize,
     // how many moves each role has
-    pub moves: &'a [u16],
+    pub moves: &'a [u8],
     pub horizon: usize,
     pub part: Part,
     ghost roles: { 0 < length moves.now },

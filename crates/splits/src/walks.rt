@@ -1,29 +1,14 @@
-ghost use Rattle.std.specs.Prelude.{◌≡◌, ◌+◌, ◌*◌, ◌/◌, ◌≤◌, true, length, is_ok, if◌then◌else◌, Ok, Err, nat_lt};
+ghost use Rattle.std.specs.Prelude.{◌≡◌, ◌+◌, ◌*◌, ◌≤◌, true, length, is_ok};
 ghost use Rattle.splits.specs.Inputs.{entries};
 ghost use Rattle.splits.specs.Shapes.{inputs};
-ghost use Rattle.splits.specs.Walk.{walked, next_checked, input_at, then_on};
-ghost use Rattle.splits.specs.declared.faults.WalkFault.TheVariants.{LeftOver};
+ghost use Rattle.splits.specs.Walk.{walked, next_checked};
 
-use crate::cases::{Case, settle};
+use crate::cases::Case;
 use crate::faults::WalkFault;
 use crate::judge::Judge;
-use crate::records::{RecordFault, read_record};
+use crate::records::read_record;
 use crate::shape::Shape;
 use crate::words::word;
-
-// The entry of the input that record `i` splits, if it splits one.
-fn read_input(
-    bytes: &[u8],
-    i: usize,
-    shape: Shape,
-    settings: &[u8],
-) -> Result<Option<usize>, RecordFault>
-    requires within { 8 * i + 8 ≤ length bytes.now }
-    requires room { entries (inputs shape) ≤ length settings.now }
-    ensures { result ≡ input_at (inputs shape.entry) bytes.now settings.now i }
-{
-    Ok(shape.input(read_record(bytes, i, shape, settings)?))
-}
 
 // The subtree of record `i` has ended before record `end`, and its next is to say so.
 fn check_next(bytes: &[u8], i: usize, end: usize, last: bool) -> Result<(), WalkFault>
@@ -38,19 +23,6 @@ fn check_next(bytes: &[u8], i: usize, end: usize, last: bool) -> Result<(), Walk
     } else {
         Err(WalkFault::Next(8 * i + 6))
     }
-}
-
-// The root's subtree has ended before record `end`: its next is to be 0, and no record may be left over.
-fn check_root(bytes: &[u8], i: usize, end: usize) -> Result<(), WalkFault>
-    requires within { 8 * i + 8 ≤ length bytes.now }
-    requires end { 8 * end ≤ length bytes.now }
-    ensures { result ≡ then_on (next_checked bytes.now i end true) (λ _. (if nat_lt end (length bytes.now / 8) then Err (LeftOver (8 * end)) else Ok tt)) }
-{
-    check_next(bytes, i, end, true)?;
-    if end < bytes.len() / 8 {
-        return Err(WalkFault::LeftOver(8 * end));
-    }
-    Ok(())
 }
 
 // Walks a split file in the case that the settings are: the first fault in walk order, or none, and then the settings are as they were.
@@ -81,36 +53,43 @@ pub fn walk<J: Judge>(
                 if at >= records {
                     return Err(WalkFault::PastEnd(bytes.len()));
                 }
-                match read_input(bytes, at, shape, settings)? {
-                    Some(input) => {
-                        settle(cases, settings, depth, Case::first(at, input));
-                        depth += 1;
-                        at += 1;
+                let read = read_record(bytes, at, shape, settings)?;
+                if let Some(input) = shape.input(read) {
+                    cases[depth] = Case {
+                        at,
+                        input,
+                        branch: 0,
+                    };
+                    settings[input] = 1;
+                    depth += 1;
+                    at += 1;
+                } else {
+                    if !judge.is_closed(settings) {
+                        return Err(WalkFault::NotClosed(8 * at));
                     }
-                    None => {
-                        if !judge.is_closed(settings) {
-                            return Err(WalkFault::NotClosed(8 * at));
-                        }
-                        over = Some(at);
-                        at += 1;
-                    }
+                    over = Some(at);
+                    at += 1;
                 }
             }
             Some(i) => {
                 if depth == 0 {
-                    return check_root(bytes, i, at);
+                    check_next(bytes, i, at, true)?;
+                    if at < records {
+                        return Err(WalkFault::LeftOver(8 * at));
+                    }
+                    return Ok(());
                 }
-                let mut top = cases[depth - 1];
-                let last = shape.is_last(top);
-                check_next(bytes, i, at, last)?;
-                if last {
+                let top = cases[depth - 1];
+                if top.branch + 1 < shape.branches(top.input) {
+                    check_next(bytes, i, at, false)?;
+                    cases[depth - 1].branch = top.branch + 1;
+                    settings[top.input] = top.branch + 2;
+                    over = None;
+                } else {
+                    check_next(bytes, i, at, true)?;
                     settings[top.input] = 0;
                     depth -= 1;
                     over = Some(top.at);
-                } else {
-                    top.branch += 1;
-                    settle(cases, settings, depth - 1, top);
-                    over = None;
                 }
             }
         }

@@ -1,5 +1,5 @@
 -- Truth forms: worlds, the answers that a value allows in each, and the laws of the operations.
-use Rattle.std.specs.Prelude.{◌≡◌, Bool, true, false, not, ◌&&◌, ◌||◌}
+use Rattle.std.specs.Prelude.{Bool, true, false, not, ◌&&◌, ◌||◌}
 
 -- the answers that one world allows
 pub data Answers : Type 0 where
@@ -53,33 +53,9 @@ pub record Laws {World : Type 0} (neg : Meaning World → Meaning World) (conj d
   pub conj_settled : Settles₂ conj
   pub disj_settled : Settles₂ disj
 
--- the meaning of some value
-abbrev pub Held : {V World : Type 0} → (V → Meaning World) → Meaning World → Type 0
-Held {V} means a = (v : V) × (means v ≡ a)
-
--- b tells whether only no is allowed in every world
-abbrev pub TellsShut : {World : Type 0} → Bool → Meaning World → Type 0
-TellsShut {World} b a = (b ≡ true → (w : World) → a w ≡ only_no) × (((w : World) → a w ≡ only_no) → b ≡ true)
-
--- what a form supplies: values for yes, no, open and for what the operations give of values, and whether one is shut
-pub record Supplied {V World : Type 0} (means : V → Meaning World) (neg : Meaning World → Meaning World) (conj disj : Meaning World → Meaning World → Meaning World) (shuts : Meaning World → Bool) : Type 0 where
-  pub shut_told : (v : V) → TellsShut (shuts (means v)) (means v)
-  pub yes_held : Held means (λ _. only_yes)
-  pub no_held : Held means (λ _. only_no)
-  pub open_held : Held means (λ _. both)
-  pub neg_held : (v : V) → Held means (neg (means v))
-  pub conj_held : (v u : V) → Held means (conj (means v) (means u))
-  pub disj_held : (v u : V) → Held means (disj (means v) (means u))
-
 -- more than the laws ask: settled in each world by itself
 abbrev pub SettlesByWorld : {World : Type 0} → (Meaning World → Meaning World) → (Meaning World → Meaning World → Meaning World) → (Meaning World → Meaning World → Meaning World) → Type 0
 SettlesByWorld {World} neg conj disj =
     ((a : Meaning World) (w : World) → Settled (a w) → Settled (neg a w))
     × ((a b : Meaning World) (w : World) → Settled (a w) → Settled (b w) → Settled (conj a b w))
     × ((a b : Meaning World) (w : World) → Settled (a w) → Settled (b w) → Settled (disj a b w))
-
--- only no is allowed
-abbrev pub is_only_no : Answers → Bool
-is_only_no only_yes = false
-is_only_no only_no = true
-is_only_no both = false

@@ -1,7 +1,7 @@
 -- The wide form: 64 worlds, numbered from 0.
-use Rattle.std.specs.Prelude.{ℕ, zero, suc, ◌%◌, ◌<◌, Bool, true, false, cond, ◌&&◌}
-use Rattle.std.proofs.Common.{mod-lt, lit<}
-use Rattle.truth.specs.Forms.{Answers, only_yes, only_no, both, Meaning, is_only_no}
+use Rattle.std.specs.Prelude.{ℕ, ◌<◌, Bool, true, false, cond}
+use Rattle.std.proofs.Common.{lit<}
+use Rattle.truth.specs.Forms.{Answers, only_yes, only_no, both, Meaning}
 use Rattle.truth.specs.Bit.{bit}
 use Rattle.truth.specs.declared.wide.Wide.{Wide}
 
@@ -31,15 +31,3 @@ abbrev pub yes_allowed : Answers → Bool
 yes_allowed only_yes = true
 yes_allowed only_no = false
 yes_allowed both = true
-
--- world k, counted round
-abbrev pub world_at : ℕ → Place
-world_at k = record { at = k % 64; below = mod-lt k (lit< tt) }
-
--- only no in the first n worlds
-abbrev pub no_in_first : ℕ → Meaning Place → Bool
-no_in_first zero a = true
-no_in_first (suc n) a = is_only_no (a (world_at n)) && no_in_first n a
-
-abbrev pub no_everywhere : Meaning Place → Bool
-no_everywhere a = no_in_first 64 a

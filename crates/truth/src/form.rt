@@ -1,5 +1,5 @@
-ghost use Rattle.std.specs.Prelude.{◌≡◌, Bool, not, ◌&&◌, ◌||◌};
-ghost use Rattle.truth.specs.Forms.{only_yes, only_no, both, Meaning, Held, TellsShut, Sound₁, Sound₂, Settles₁, Settles₂, Laws, Supplied};
+ghost use Rattle.std.specs.Prelude.{◌≡◌, true, not, ◌&&◌, ◌||◌};
+ghost use Rattle.truth.specs.Forms.{only_yes, only_no, both, Meaning, Sound₁, Sound₂, Settles₁, Settles₂, Laws};
 
 // A type of truth values. Its operations are known by what they do to meanings, so what a
 // result allows depends only on what its operands allow. Nothing is asked of the representation.
@@ -17,9 +17,6 @@ pub trait TruthForm: Copy {
     ghost conj: { Meaning World → Meaning World → Meaning World };
 
     ghost disj: { Meaning World → Meaning World → Meaning World };
-
-    // Whether a meaning allows only no in every world, told for the meanings that values have.
-    ghost shuts: { Meaning World → Bool };
 
     fn yes() -> Self
         ensures { (w : World) → means result w ≡ only_yes };
@@ -41,7 +38,8 @@ pub trait TruthForm: Copy {
 
     // Whether only no is allowed in every world.
     fn shut(self) -> bool
-        ensures { result ≡ shuts (means self) };
+        ensures sound { result ≡ true → (w : World) → means self w ≡ only_no }
+        ensures complete { ((w : World) → means self w ≡ only_no) → result ≡ true };
 
     ghost neg_sound: { Sound₁ not neg };
 
@@ -54,27 +52,11 @@ pub trait TruthForm: Copy {
     ghost conj_settled: { Settles₂ conj };
 
     ghost disj_settled: { Settles₂ disj };
-
-    ghost shut_told: { (v : Self) → TellsShut (shuts (means v)) (means v) };
-
-    // What yes, no, open, not, and, or give are values.
-    ghost yes_held: { Held means (λ _. only_yes) };
-
-    ghost no_held: { Held means (λ _. only_no) };
-
-    ghost open_held: { Held means (λ _. both) };
-
-    ghost neg_held: { (v : Self) → Held means (neg (means v)) };
-
-    ghost conj_held: { (v u : Self) → Held means (conj (means v) (means u)) };
-
-    ghost disj_held: { (v u : Self) → Held means (disj (means v) (means u)) };
 }
 
 // The laws of a form, as one record for proofs about code that is generic over it.
 pub fn laws_stand<T: TruthForm>() -> u8
-    ensures laws { Laws neg conj disj }
-    ensures supplied { Supplied means neg conj disj shuts }
+    ensures { Laws neg conj disj }
 {
     0
 }

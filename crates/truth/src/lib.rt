@@ -6,6 +6,8 @@
 // Proved: both forms keep the laws (sound; settled where the operands are; shut exactly where
 // only no is allowed), their operations are Kleene's world by world, and they settle in each
 // world by itself.
+#![tactic(auto)]
+
 pub mod form;
 pub mod three;
 pub mod wide;

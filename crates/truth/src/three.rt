@@ -1,9 +1,7 @@
-ghost use Rattle.std.specs.Prelude.{◌≡◌, refl};
-ghost use Rattle.truth.specs.Forms.{only_yes, only_no, both, is_only_no, SettlesByWorld};
+ghost use Rattle.std.specs.Prelude.{◌≡◌, true};
+ghost use Rattle.truth.specs.Forms.{only_yes, only_no, both, SettlesByWorld};
 ghost use Rattle.truth.specs.Kleene.{neg as not_each, conj as and_each, disj as or_each};
 ghost use Rattle.truth.specs.Three.{Only, here, means as three_means, is_no, three_not, three_and, three_or};
-ghost use Rattle.truth.specs.Threes.{three_told, neg_value, conj_value, disj_value};
-ghost use Rattle.truth.specs.declared.three.Three.TheVariants.{Yes, No, Open};
 ghost use Rattle.std.proofs.Common.{rules};
 
 use crate::form::TruthForm;
@@ -29,8 +27,6 @@ impl TruthForm for Three {
 
     ghost disj = { or_each };
 
-    ghost shuts = { λ a. is_only_no (a here) };
-
     ghost neg_sound = { Prim.search rules };
 
     ghost conj_sound = { Prim.search rules };
@@ -42,20 +38,6 @@ impl TruthForm for Three {
     ghost conj_settled = { Prim.search rules };
 
     ghost disj_settled = { Prim.search rules };
-
-    ghost shut_told = { three_told };
-
-    ghost yes_held = { (Yes, refl) };
-
-    ghost no_held = { (No, refl) };
-
-    ghost open_held = { (Open, refl) };
-
-    ghost neg_held = { neg_value };
-
-    ghost conj_held = { conj_value };
-
-    ghost disj_held = { disj_value };
 
     fn yes() -> Three
         ensures lawful { (w : Only) → three_means result w ≡ only_yes }
@@ -114,7 +96,8 @@ impl TruthForm for Three {
     }
 
     fn shut(self) -> bool
-        ensures lawful { result ≡ is_only_no (three_means self here) }
+        ensures sound { result ≡ true → (w : Only) → three_means self w ≡ only_no }
+        ensures complete { ((w : Only) → three_means self w ≡ only_no) → result ≡ true }
         ensures exact { result ≡ is_no self }
     {
         matches!(self, Three::No)

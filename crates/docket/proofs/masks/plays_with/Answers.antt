@@ -1,5 +1,5 @@
 use Rattle.std.proofs.Common.{◌≡◌, ℕ, ◌+◌, ◌-◌, ◌*◌, eqb, sym, ap, ◌∙◌, subst, arith}
-use Rattle.evidence.specs.Plays.{flag, byte_is}
+use Rattle.docket.specs.Plays.{flag, byte_is}
 use Rattle.docket.proofs.Bitmaps.{Masked, masked_goes}
 use Rattle.docket.proofs.masks.plays_with.Goals as goal
 

@@ -1,4 +1,4 @@
-use Rattle.evidence.specs.Plays.{byte_is}
+use Rattle.docket.specs.Plays.{byte_is}
 use Rattle.docket.proofs.Bitmaps.{Masked}
 use Rattle.docket.proofs.masks.plays_with.Given as goal
 

@@ -5,13 +5,12 @@ use Rattle.rules.specs.Opens.{moves_of}
 use Rattle.evaluate.specs.Grids.{place}
 use Rattle.evaluate.specs.Positions.{fluents, choices, does_at}
 use Rattle.evaluate.proofs.Chains.{few_atoms}
-use Rattle.evidence.specs.declared.choices.Choice.{Choice}
-use Rattle.evidence.specs.Choices.{choice_of}
-use Rattle.docket.specs.Inputs.{doing}
-use Rattle.evidence.specs.Plays.{byte_is, move_byte}
-use Rattle.evidence.proofs.Choosing.{role_within}
-use Rattle.evidence.proofs.Inputs.{few_fluents, few_roles, roles_are, choices_are, Put, put_starts, put_goes, move_inside, does_small}
-use Rattle.docket.proofs.Bitmaps.{mask_means}
+use Rattle.docket.specs.declared.choices.Choice.{Choice}
+use Rattle.docket.specs.Choices.{choice_of}
+use Rattle.docket.specs.Inputs.{doing, move_byte}
+use Rattle.docket.specs.Plays.{byte_is}
+use Rattle.docket.proofs.Choosing.{role_within}
+use Rattle.docket.proofs.Inputs.{few_fluents, few_roles, roles_are, choices_are, mask_means, Put, put_starts, put_goes, move_inside, does_small}
 use Rattle.docket.proofs.plays.put_level.Goals as goal
 
 pub loop-c-init : goal.loop-c-init

@@ -2,7 +2,7 @@ use Rattle.truth.specs.Wide.{means}
 use Rattle.evaluate.specs.Grids.{place}
 use Rattle.evaluate.specs.Positions.{does_at}
 use Rattle.docket.specs.Inputs.{doing}
-use Rattle.evidence.proofs.Inputs.{Put}
+use Rattle.docket.proofs.Inputs.{Put}
 use Rattle.docket.proofs.plays.put_level.Given as goal
 
 abbrev pub invariant-loop-c : goal.invariant-loop-c

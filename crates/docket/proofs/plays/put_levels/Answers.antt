@@ -6,7 +6,7 @@ use Rattle.evaluate.specs.Positions.{does_at}
 use Rattle.evaluate.proofs.Chains.{few_atoms}
 use Rattle.evaluate.proofs.Rows.{rows_apart}
 use Rattle.docket.specs.Inputs.{doing}
-use Rattle.evidence.proofs.Inputs.{does_small}
+use Rattle.docket.proofs.Inputs.{does_small}
 use Rattle.docket.proofs.plays.put_levels.Goals as goal
 
 pub loop-level-init : goal.loop-level-init

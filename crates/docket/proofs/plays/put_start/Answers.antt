@@ -4,9 +4,8 @@ use Rattle.evaluate.specs.Positions.{fluents}
 use Rattle.evaluate.proofs.Chains.{few_atoms}
 use Rattle.evaluate.proofs.Fitting.{enough}
 use Rattle.docket.specs.Inputs.{starting}
-use Rattle.evidence.specs.Plays.{byte_is}
-use Rattle.evidence.proofs.Inputs.{few_fluents, put_starts, put_goes}
-use Rattle.docket.proofs.Bitmaps.{mask_means}
+use Rattle.docket.specs.Plays.{byte_is}
+use Rattle.docket.proofs.Inputs.{few_fluents, mask_means, put_starts, put_goes}
 use Rattle.docket.proofs.plays.put_start.Goals as goal
 
 pub loop-f-init : goal.loop-f-init

@@ -1,6 +1,6 @@
 use Rattle.truth.specs.Wide.{means}
 use Rattle.docket.specs.Inputs.{starting}
-use Rattle.evidence.proofs.Inputs.{Put}
+use Rattle.docket.proofs.Inputs.{Put}
 use Rattle.docket.proofs.plays.put_start.Given as goal
 
 abbrev pub invariant-loop-f : goal.invariant-loop-f

@@ -1,12 +1,12 @@
-use Rattle.std.proofs.Common.{◌≡◌, ◌+◌, ◌-◌, get_or, set, Ok, sym, refl, ap, ◌∙◌, arith}
+use Rattle.std.proofs.Common.{◌≡◌, ◌+◌, ◌-◌, ◌<◌, ◌≤◌, Bool, true, false, length, get_or, Some, None, Ok, Err, sym, refl, ap, ◌∙◌, subst, arith, rules}
 use Rattle.std.proofs.lemmas.Result.{err_from_is_err_and}
-use Rattle.std.proofs.lemmas.Bool.{leb-true, leb-false, false≢true}
+use Rattle.std.proofs.lemmas.Bool.{eq-eqb, ne_eqb, false≢true}
 use Rattle.splits.specs.Shapes.{inputs}
-use Rattle.splits.specs.Walk.{next_checked}
 use Rattle.splits.proofs.Stacks.{none}
 use Rattle.splits.proofs.Counts.{branch_some, branch_few}
 use Rattle.splits.proofs.Shapings.{proper}
-use Rattle.splits.proofs.Walkings.{none_left, walking_same, walking_starts, walking_past, walking_fault, walking_open, walking_close, walking_room, walking_split, walking_top, walking_wrong, walking_next, walking_pop, split_open}
+use Rattle.splits.proofs.Readings.{told, fault_told, is_record}
+use Rattle.splits.proofs.Walkings.{walking_starts, walking_past, walking_fault, walking_open, walking_close, walking_room, walking_split, walking_top, walking_wrong, walking_next, walking_pop, split_open}
 use Rattle.splits.proofs.walks.walk.Goals as goal
 
 pub loop-over-init : goal.loop-over-init
@@ -16,66 +16,60 @@ pub returns-then-at-records : goal.returns-then-at-records
 returns-then-at-records g c =
     record { answer = walking_past _ _ _ _ _ _ _ _ _ c.loop-over.invariant.1 c.in-None.is c.if-at-records.true; same = c.loop-over.invariant.0; again = λ e. absurd (false≢true e) }
 
-pub returns-in-err-input : goal.returns-in-err-input
-returns-in-err-input g c =
+pub returns-in-err-read : goal.returns-in-err-read
+returns-in-err-read g c =
     let p = err_from_is_err_and c.from-residual.result c.from-residual.ensures.1 in
-    rw (p.1, p.2) (record { answer = walking_fault _ _ _ _ _ _ _ _ _ c.loop-over.invariant.1 _ c.in-None.is c.if-at-records.false (sym c.in-err-input.was ∙ c.read-input.ensures); same = c.loop-over.invariant.0; again = λ e. absurd (false≢true e) })
+    rw (p.1, p.2) (record { answer = walking_fault _ _ _ _ _ _ _ _ _ c.loop-over.invariant.1 _ c.in-None.is c.if-at-records.false (fault_told (inputs c.args.shape) c.args.bytes.now c.loop-over.settings c.loop-over.at _ (sym c.in-err-read.was ∙ c.read-record.ensures)); same = c.loop-over.invariant.0; again = λ e. absurd (false≢true e) })
 
-pub settle-requires : goal.settle-requires
-settle-requires g c =
-    let r = walking_room _ _ _ _ _ _ _ _ _ c.loop-over.invariant.1 c.in-Some-2.input (omega arith) (ap Ok (sym c.in-Some-2.is) ∙ c.in-ok-input.ensures) in
-    let o = split_open (inputs c.args.shape) c.args.bytes.now c.loop-over.settings c.loop-over.at c.in-Some-2.input (ap Ok (sym c.in-Some-2.is) ∙ c.in-ok-input.ensures) in
-    let k = ap (λ y. y.input) c.first.ensures in
-    let b = ap (λ y. y.branch) c.first.ensures in
-    record { depth = omega (arith, r); input = omega (arith, o.0); branch = omega arith }
+pub bounds-cases-depth : goal.bounds-cases-depth
+bounds-cases-depth g c =
+    let r = walking_room _ _ _ _ _ _ _ _ _ c.loop-over.invariant.1 c.in-Some-input.input (omega arith) (told (inputs c.args.shape) c.args.bytes.now c.loop-over.settings c.loop-over.at c.in-ok-read.read (Some c.in-Some-input.input) c.in-ok-read.ensures (sym c.in-Some-input.is ∙ c.input.ensures)) in
+    omega (arith, r)
 
-pub loop-over-preserved-in-Some-2 : goal.loop-over-preserved-in-Some-2
-loop-over-preserved-in-Some-2 g c = (
+pub bounds-settings-input : goal.bounds-settings-input
+bounds-settings-input g c =
+    let r = split_open (inputs c.args.shape) c.args.bytes.now c.loop-over.settings c.loop-over.at c.in-Some-input.input (told (inputs c.args.shape) c.args.bytes.now c.loop-over.settings c.loop-over.at c.in-ok-read.read (Some c.in-Some-input.input) c.in-ok-read.ensures (sym c.in-Some-input.is ∙ c.input.ensures)) in
+    omega (arith, r.0)
+
+pub loop-over-preserved-in-Some-input : goal.loop-over-preserved-in-Some-input
+loop-over-preserved-in-Some-input g c = (
   c.loop-over.invariant.0,
-  walking_same _ _ _ _ _ _ _ _ _ _ _ (c.settle.ensures.settings ∙ ap (λ o. set c.loop-over.settings o.input (o.branch + 1)) c.first.ensures) (c.settle.ensures.cases ∙ ap (set c.loop-over.cases c.loop-over.depth) c.first.ensures)
-      (walking_split _ _ _ _ _ _ _ _ _ c.loop-over.invariant.1 c.in-Some-2.input (omega arith) (omega arith) (λ k l. branch_some _ (proper c.args.shape) k) c.in-None.is c.if-at-records.false (ap Ok (sym c.in-Some-2.is) ∙ c.in-ok-input.ensures)),
+  walking_split _ _ _ _ _ _ _ _ _ c.loop-over.invariant.1 c.in-Some-input.input (omega arith) (omega arith) (λ k l. branch_some _ (proper c.args.shape) k) c.in-None.is c.if-at-records.false (told (inputs c.args.shape) c.args.bytes.now c.loop-over.settings c.loop-over.at c.in-ok-read.read (Some c.in-Some-input.input) c.in-ok-read.ensures (sym c.in-Some-input.is ∙ c.input.ensures)),
 )
 
 pub returns-then-not-is-closed : goal.returns-then-not-is-closed
 returns-then-not-is-closed g c =
-    record { answer = walking_open _ _ _ _ _ _ _ _ _ c.loop-over.invariant.1 c.in-None.is c.if-at-records.false (ap Ok (sym c.in-None-2.is) ∙ c.in-ok-input.ensures) (ap (λ f. f c.loop-over.settings) (sym c.loop-over.invariant.0) ∙ sym c.if-not-is-closed.ensures.says); same = c.if-not-is-closed.ensures.same ∙ c.loop-over.invariant.0; again = λ e. absurd (false≢true e) }
+    record { answer = walking_open _ _ _ _ _ _ _ _ _ c.loop-over.invariant.1 c.in-None.is c.if-at-records.false (told (inputs c.args.shape) c.args.bytes.now c.loop-over.settings c.loop-over.at c.in-ok-read.read None c.in-ok-read.ensures c.in-default.ensures) (ap (λ f. f c.loop-over.settings) (sym c.loop-over.invariant.0) ∙ sym c.if-not-is-closed.ensures.says); same = c.if-not-is-closed.ensures.same ∙ c.loop-over.invariant.0; again = λ e. absurd (false≢true e) }
 
-pub loop-over-preserved-in-None-2 : goal.loop-over-preserved-in-None-2
-loop-over-preserved-in-None-2 g c = (
+pub loop-over-preserved-in-default : goal.loop-over-preserved-in-default
+loop-over-preserved-in-default g c = (
   c.if-not-is-closed.ensures.same ∙ c.loop-over.invariant.0,
-  walking_close _ _ _ _ _ _ _ _ _ c.loop-over.invariant.1 c.in-None.is c.if-at-records.false (ap Ok (sym c.in-None-2.is) ∙ c.in-ok-input.ensures) (ap (λ f. f c.loop-over.settings) (sym c.loop-over.invariant.0) ∙ sym c.if-not-is-closed.ensures.says),
+  walking_close _ _ _ _ _ _ _ _ _ c.loop-over.invariant.1 c.in-None.is c.if-at-records.false (told (inputs c.args.shape) c.args.bytes.now c.loop-over.settings c.loop-over.at c.in-ok-read.read None c.in-ok-read.ensures c.in-default.ensures) (ap (λ f. f c.loop-over.settings) (sym c.loop-over.invariant.0) ∙ sym c.if-not-is-closed.ensures.says),
 )
 
-pub is-last-last-requires : goal.is-last-last-requires
-is-last-last-requires g c =
+pub overflow-add-top : goal.overflow-add-top
+overflow-add-top g c =
     let t = walking_top _ _ _ _ _ _ _ _ _ c.loop-over.invariant.1 (omega arith) in
     omega (arith, t.2, branch_few _ (proper c.args.shape) (get_or c.loop-over.cases (c.loop-over.depth - 1) none).input)
 
-pub returns-in-err-check-next : goal.returns-in-err-check-next
-returns-in-err-check-next g c =
-    let p = err_from_is_err_and c.from-residual-in-err-check-next.result c.from-residual-in-err-check-next.ensures.1 in
-    rw (p.1, p.2) (record { answer = walking_wrong _ _ _ _ _ _ _ _ _ c.loop-over.invariant.1 c.in-Some.i c.in-Some.is (omega arith) c.is-last-last.result _ (none_left _ _ ∙ sym c.is-last-last.ensures) (sym c.in-err-check-next.was ∙ c.check-next.ensures); same = c.loop-over.invariant.0; again = λ e. absurd (false≢true e) })
+pub returns-in-err-check-next-2 : goal.returns-in-err-check-next-2
+returns-in-err-check-next-2 g c =
+    let p = err_from_is_err_and c.from-residual-in-err-check-next-2.result c.from-residual-in-err-check-next-2.ensures.1 in
+    rw (p.1, p.2) (record { answer = walking_wrong _ _ _ _ _ _ _ _ _ c.loop-over.invariant.1 c.in-Some.i c.in-Some.is (omega arith) false _ (ne_eqb _ _ (λ z. omega (arith, c.if-top-branches.true, c.branches.ensures))) (sym c.in-err-check-next-2.was ∙ c.check-next-then-top-branches.ensures); same = c.loop-over.invariant.0; again = λ e. absurd (false≢true e) })
 
 pub bounds-settings-top : goal.bounds-settings-top
 bounds-settings-top g c = let t = walking_top _ _ _ _ _ _ _ _ _ c.loop-over.invariant.1 (omega arith) in omega (arith, t.1)
 
-pub loop-over-preserved-then-last : goal.loop-over-preserved-then-last
-loop-over-preserved-then-last g c = (
-  c.loop-over.invariant.0,
-  walking_pop _ _ _ _ _ _ _ _ _ c.loop-over.invariant.1 c.in-Some.i c.in-Some.is (omega arith) (leb-true _ _ (sym c.is-last-last.ensures ∙ c.if-last.true)) (c.in-ok-check-next.ensures ∙ ap (next_checked c.args.bytes.now c.in-Some.i c.loop-over.at) c.if-last.true),
-)
+pub loop-over-preserved-then-top-branches : goal.loop-over-preserved-then-top-branches
+loop-over-preserved-then-top-branches g c = (c.loop-over.invariant.0, walking_next _ _ _ _ _ _ _ _ _ c.loop-over.invariant.1 c.in-Some.i c.in-Some.is (omega arith) (omega arith) (omega arith) (subst (λ n. (get_or c.loop-over.cases (c.loop-over.depth - 1) none).branch + 1 < n) c.branches.ensures c.if-top-branches.true) c.in-ok-check-next-2.ensures)
 
-pub settle-requires-else-last : goal.settle-requires-else-last
-settle-requires-else-last g c =
-    let t = walking_top _ _ _ _ _ _ _ _ _ c.loop-over.invariant.1 (omega arith) in
-    let f = branch_few _ (proper c.args.shape) (get_or c.loop-over.cases (c.loop-over.depth - 1) none).input in
-    record { depth = omega arith; input = omega (arith, t.1); branch = omega (arith, t.2, f) }
+pub returns-in-err-check-next-3 : goal.returns-in-err-check-next-3
+returns-in-err-check-next-3 g c =
+    let p = err_from_is_err_and c.from-residual-in-err-check-next-3.result c.from-residual-in-err-check-next-3.ensures.1 in
+    rw (p.1, p.2) (record { answer = walking_wrong _ _ _ _ _ _ _ _ _ c.loop-over.invariant.1 c.in-Some.i c.in-Some.is (omega arith) true _ (eq-eqb _ _ (omega (arith, c.if-top-branches.false, c.branches.ensures))) (sym c.in-err-check-next-3.was ∙ c.check-next-else-top-branches.ensures); same = c.loop-over.invariant.0; again = λ e. absurd (false≢true e) })
+
+pub bounds-settings-top-else-top-branches : goal.bounds-settings-top-else-top-branches
+bounds-settings-top-else-top-branches g c = let t = walking_top _ _ _ _ _ _ _ _ _ c.loop-over.invariant.1 (omega arith) in omega (arith, t.1)
 
 pub loop-over-preserved : goal.loop-over-preserved
-loop-over-preserved g c =
-    let o = get_or c.loop-over.cases (c.loop-over.depth - 1) none in
-    let n : o.branch + 1 + 1 ≡ o.branch + 2 = omega arith in (
-      c.loop-over.invariant.0,
-      walking_same _ _ _ _ _ _ _ _ _ _ _ (c.settle-else-last.ensures.settings ∙ ap (set c.loop-over.settings o.input) n) c.settle-else-last.ensures.cases
-          (walking_next _ _ _ _ _ _ _ _ _ c.loop-over.invariant.1 c.in-Some.i c.in-Some.is (omega arith) (omega arith) (omega arith) (leb-false _ _ (sym c.is-last-last.ensures ∙ c.if-last.false)) (c.in-ok-check-next.ensures ∙ ap (next_checked c.args.bytes.now c.in-Some.i c.loop-over.at) c.if-last.false)),
-    )
+loop-over-preserved g c = (c.loop-over.invariant.0, walking_pop _ _ _ _ _ _ _ _ _ c.loop-over.invariant.1 c.in-Some.i c.in-Some.is (omega arith) (subst (λ n. n ≤ (get_or c.loop-over.cases (c.loop-over.depth - 1) none).branch + 1) c.branches.ensures c.if-top-branches.false) c.in-ok-check-next-3.ensures)

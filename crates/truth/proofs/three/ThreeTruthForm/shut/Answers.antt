@@ -1,9 +1,13 @@
-use Rattle.std.proofs.Common.{◌∙◌}
-use Rattle.truth.specs.Threes.{not_no, told_no}
+use Rattle.std.proofs.lemmas.Bool.{false≢true}
+use Rattle.truth.specs.Three.{here}
+use Rattle.truth.proofs.Threes.{not_no, only_no_here}
 use Rattle.truth.proofs.three.ThreeTruthForm.shut.Goals as goal
 
 pub returns-in-default : goal.returns-in-default
 returns-in-default c =
     let v = c.args.self in
-    let e = not_no v c.in-default.not-No in
-    record { lawful = e ∙ told_no v; exact = e }
+    record {
+      sound = λ e. absurd (false≢true e);
+      complete = λ all. absurd (c.in-default.not-No (only_no_here v (all here)));
+      exact = not_no v c.in-default.not-No;
+    }

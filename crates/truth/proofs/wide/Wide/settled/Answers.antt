@@ -1,5 +1,5 @@
 use Rattle.std.proofs.Common.{◌^◌, ◌<◌, refl, rules}
-use Rattle.truth.specs.Wides.{answered_not, allows_not}
+use Rattle.truth.proofs.Wides.{answered_not, allows_not}
 use Rattle.truth.proofs.wide.Wide.settled.Goals as goal
 
 pub invariant-of-result : goal.invariant-of-result

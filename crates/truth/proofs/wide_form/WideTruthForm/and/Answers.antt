@@ -1,5 +1,5 @@
 use Rattle.truth.specs.Wide.{Place}
-use Rattle.truth.specs.Wides.{answered_and, allows_and}
+use Rattle.truth.proofs.Wides.{answered_and, allows_and}
 use Rattle.truth.proofs.wide_form.WideTruthForm.and.Goals as goal
 
 pub invariant-of-result : goal.invariant-of-result

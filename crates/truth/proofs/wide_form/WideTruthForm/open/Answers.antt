@@ -1,6 +1,6 @@
 use Rattle.std.proofs.Common.{◌||◌, ap₂}
 use Rattle.truth.specs.Wide.{allowing}
-use Rattle.truth.specs.Bitwise.{bit_ones}
+use Rattle.truth.proofs.Bitwise.{bit_ones}
 use Rattle.truth.proofs.wide_form.WideTruthForm.open.Goals as goal
 
 pub invariant-of-result : goal.invariant-of-result

@@ -1,5 +1,5 @@
 use Rattle.truth.specs.Wide.{Place}
-use Rattle.truth.specs.Wides.{answered_or, allows_or}
+use Rattle.truth.proofs.Wides.{answered_or, allows_or}
 use Rattle.truth.proofs.wide_form.WideTruthForm.or.Goals as goal
 
 pub invariant-of-result : goal.invariant-of-result
