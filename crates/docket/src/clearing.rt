@@ -6,7 +6,7 @@ use truth::form::TruthForm;
 
 // Puts every value back to no.
 pub fn clear_values<T: TruthForm>(values: &mut [T])
-    ensures no { AllNo means values.new }
+    ensures no { AllNo T.means values.new }
     ensures len { length values.new ≡ length values.old }
 {
     for value in values.iter_mut() {

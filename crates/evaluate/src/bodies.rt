@@ -13,7 +13,7 @@ use truth::form::TruthForm;
 fn literal<T: TruthForm>(l: Literal, values: &[T]) -> T
     requires above { 0 < l.atom }
     requires within { l.atom ≤ length values.now }
-    ensures { means result ≡ part_means (meanings neg conj disj) (look (meanings neg conj disj) (map means values.now)) (part_of l) }
+    ensures { T.means result ≡ part_means (meanings T.neg T.conj T.disj) (look (meanings T.neg T.conj T.disj) (map T.means values.now)) (part_of l) }
 {
     let v = values[usize::from(l.atom) - 1];
     match l.sign {
@@ -43,7 +43,7 @@ fn rule_record(rules: &Rules, number: u16) -> Rule
 fn body<T: TruthForm>(rules: &Rules, first: u16, values: &[T]) -> T
     requires first { first ≤ rules.now.layout.literals }
     requires values { length values.now ≡ length (atoms_of rules.now) }
-    ensures { means result ≡ body_means (meanings neg conj disj) (look (meanings neg conj disj) (map means values.now)) (λ _. only_yes) (body_from rules.now first) }
+    ensures { T.means result ≡ body_means (meanings T.neg T.conj T.disj) (look (meanings T.neg T.conj T.disj) (map T.means values.now)) (λ _. only_yes) (body_from rules.now first) }
 {
     let mut all = T::yes();
     let mut at = first;
@@ -59,7 +59,7 @@ fn body<T: TruthForm>(rules: &Rules, first: u16, values: &[T]) -> T
 pub fn any_body<T: TruthForm>(rules: &Rules, first: u16, values: &[T]) -> T
     requires first { first ≤ rules.now.layout.rules }
     requires values { length values.now ≡ length (atoms_of rules.now) }
-    ensures { means result ≡ any_of (meanings neg conj disj) (look (meanings neg conj disj) (map means values.now)) (λ _. only_no) (bodies_from rules.now first) }
+    ensures { T.means result ≡ any_of (meanings T.neg T.conj T.disj) (look (meanings T.neg T.conj T.disj) (map T.means values.now)) (λ _. only_no) (bodies_from rules.now first) }
 {
     let mut any = T::no();
     let mut at = first;

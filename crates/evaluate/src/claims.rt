@@ -45,35 +45,35 @@ pub fn game_reads() -> u8
 
 // Where what is given allows answers in a world, the values of a level allow those of the standard model there.
 pub fn levels_are_sound<T: TruthForm>() -> u8
-    ensures { Sound (meanings neg conj disj) }
+    ensures { Sound (meanings T.neg T.conj T.disj) }
 {
     0
 }
 
 // Where what is given is settled, so are the values of a level.
 pub fn levels_are_settled<T: TruthForm>() -> u8
-    ensures { Settling (meanings neg conj disj) }
+    ensures { Settling (meanings T.neg T.conj T.disj) }
 {
     0
 }
 
 // Then they are exactly the answers of the standard model, in every world.
 pub fn levels_are_exact<T: TruthForm>() -> u8
-    ensures { Exact (meanings neg conj disj) }
+    ensures { Exact (meanings T.neg T.conj T.disj) }
 {
     0
 }
 
 // An atom whose only rule has the atom itself as body is no in every world, whatever is given.
 pub fn unsupported_is_no<T: TruthForm>() -> u8
-    ensures { UnsupportedIsNo (meanings neg conj disj) }
+    ensures { UnsupportedIsNo (meanings T.neg T.conj T.disj) }
 {
     0
 }
 
 // Moves do not change still atoms: at any form, and over yes and no.
 pub fn still_atoms_stay<T: TruthForm>() -> u8
-    ensures { StillAtomsStay (meanings neg conj disj) }
+    ensures { StillAtomsStay (meanings T.neg T.conj T.disj) }
 {
     0
 }
@@ -86,7 +86,7 @@ pub fn still_answers_stay() -> u8
 
 // Only the values of stratum 0 matter to the evaluation.
 pub fn only_given_matters<T: TruthForm>() -> u8
-    ensures { OnlyGivenMatters (meanings neg conj disj) }
+    ensures { OnlyGivenMatters (meanings T.neg T.conj T.disj) }
 {
     0
 }

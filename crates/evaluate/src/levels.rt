@@ -16,7 +16,7 @@ impl<'a, T: TruthForm> Grid<'a, T> {
     fn strata(&mut self, rules: Indexed<'_>, level: usize)
         requires level { level < 5 }
         requires room { Roomy self.old.values.now }
-        ensures values { map means (row_of (size rules.entry) self.new.values.now level) ≡ evaluated (meanings neg conj disj) (program_of (indexed_rules rules.entry)) (map means (row_of (size rules.entry) self.old.values.now level)) }
+        ensures values { map T.means (row_of (size rules.entry) self.new.values.now level) ≡ evaluated (meanings T.neg T.conj T.disj) (program_of (indexed_rules rules.entry)) (map T.means (row_of (size rules.entry) self.old.values.now level)) }
         ensures kept { KeptButLast (size rules.entry) level self.old.values.now self.new.values.now }
         ensures len { length self.new.values.now ≡ length self.old.values.now }
         ensures lender { self.new.values.ghost_name ≡ self.old.values.ghost_name }
@@ -31,7 +31,7 @@ impl<'a, T: TruthForm> Grid<'a, T> {
     pub fn evaluate(&mut self, rules: Indexed<'_>, level: usize)
         requires level { level < 5 }
         requires room { Roomy self.old.values.now }
-        ensures values { map means (row_of (size rules.entry) self.new.values.now level) ≡ level_of (meanings neg conj disj) (indexed_rules rules.entry) (look (meanings neg conj disj) (map means (row_of (size rules.entry) self.old.values.now level))) (λ k. look (meanings neg conj disj) (map means (row_of (size rules.entry) self.old.values.now level)) (does_at (indexed_rules rules.entry) k)) }
+        ensures values { map T.means (row_of (size rules.entry) self.new.values.now level) ≡ level_of (meanings T.neg T.conj T.disj) (indexed_rules rules.entry) (look (meanings T.neg T.conj T.disj) (map T.means (row_of (size rules.entry) self.old.values.now level))) (λ k. look (meanings T.neg T.conj T.disj) (map T.means (row_of (size rules.entry) self.old.values.now level)) (does_at (indexed_rules rules.entry) k)) }
         ensures kept { KeptButLast (size rules.entry) level self.old.values.now self.new.values.now }
         ensures len { length self.new.values.now ≡ length self.old.values.now }
         ensures lender { self.new.values.ghost_name ≡ self.old.values.ghost_name }
@@ -43,7 +43,7 @@ impl<'a, T: TruthForm> Grid<'a, T> {
     fn carry(&mut self, rules: Indexed<'_>, level: usize)
         requires level { level < 4 }
         requires room { Roomy self.old.values.now }
-        ensures values { map means (row_of (size rules.entry) self.new.values.now (level + 1)) ≡ carried (meanings neg conj disj) (indexed_rules rules.entry) (map means (row_of (size rules.entry) self.old.values.now level)) (map means (row_of (size rules.entry) self.old.values.now (level + 1))) }
+        ensures values { map T.means (row_of (size rules.entry) self.new.values.now (level + 1)) ≡ carried (meanings T.neg T.conj T.disj) (indexed_rules rules.entry) (map T.means (row_of (size rules.entry) self.old.values.now level)) (map T.means (row_of (size rules.entry) self.old.values.now (level + 1))) }
         ensures kept { KeptBut (size rules.entry) (level + 1) self.old.values.now self.new.values.now }
         ensures len { length self.new.values.now ≡ length self.old.values.now }
         ensures lender { self.new.values.ghost_name ≡ self.old.values.ghost_name }
@@ -59,7 +59,7 @@ impl<'a, T: TruthForm> Grid<'a, T> {
     fn advance(&mut self, rules: Indexed<'_>, level: usize)
         requires level { level < 4 }
         requires room { Roomy self.old.values.now }
-        ensures values { map means (row_of (size rules.entry) self.new.values.now (level + 1)) ≡ level_of (meanings neg conj disj) (indexed_rules rules.entry) (λ f. look (meanings neg conj disj) (map means (row_of (size rules.entry) self.old.values.now level)) (next_at (indexed_rules rules.entry) f)) (λ k. look (meanings neg conj disj) (map means (row_of (size rules.entry) self.old.values.now (level + 1))) (does_at (indexed_rules rules.entry) k)) }
+        ensures values { map T.means (row_of (size rules.entry) self.new.values.now (level + 1)) ≡ level_of (meanings T.neg T.conj T.disj) (indexed_rules rules.entry) (λ f. look (meanings T.neg T.conj T.disj) (map T.means (row_of (size rules.entry) self.old.values.now level)) (next_at (indexed_rules rules.entry) f)) (λ k. look (meanings T.neg T.conj T.disj) (map T.means (row_of (size rules.entry) self.old.values.now (level + 1))) (does_at (indexed_rules rules.entry) k)) }
         ensures kept { KeptButLast (size rules.entry) (level + 1) self.old.values.now self.new.values.now }
         ensures len { length self.new.values.now ≡ length self.old.values.now }
         ensures lender { self.new.values.ghost_name ≡ self.old.values.ghost_name }
@@ -72,7 +72,7 @@ impl<'a, T: TruthForm> Grid<'a, T> {
     fn roll(&mut self, rules: Indexed<'_>, horizon: usize)
         requires horizon { horizon < 5 }
         requires room { Roomy self.old.values.now }
-        ensures values { (k : ℕ) → k ≤ horizon → map means (row_of (size rules.entry) self.new.values.now k) ≡ from_first (meanings neg conj disj) (indexed_rules rules.entry) (map means (row_of (size rules.entry) self.old.values.now 0)) (λ j k. look (meanings neg conj disj) (map means (row_of (size rules.entry) self.old.values.now j)) (does_at (indexed_rules rules.entry) k)) k }
+        ensures values { (k : ℕ) → k ≤ horizon → map T.means (row_of (size rules.entry) self.new.values.now k) ≡ from_first (meanings T.neg T.conj T.disj) (indexed_rules rules.entry) (map T.means (row_of (size rules.entry) self.old.values.now 0)) (λ j k. look (meanings T.neg T.conj T.disj) (map T.means (row_of (size rules.entry) self.old.values.now j)) (does_at (indexed_rules rules.entry) k)) k }
         ensures kept { KeptPast (size rules.entry) horizon self.old.values.now self.new.values.now }
         ensures len { length self.new.values.now ≡ length self.old.values.now }
         ensures lender { self.new.values.ghost_name ≡ self.old.values.ghost_name }
@@ -86,7 +86,7 @@ impl<'a, T: TruthForm> Grid<'a, T> {
     pub fn play(&mut self, rules: Indexed<'_>, horizon: usize)
         requires horizon { horizon < 5 }
         requires room { Roomy self.old.values.now }
-        ensures values { (k : ℕ) → k ≤ horizon → map means (row_of (size rules.entry) self.new.values.now k) ≡ at_level (meanings neg conj disj) (indexed_rules rules.entry) (look (meanings neg conj disj) (map means (row_of (size rules.entry) self.old.values.now 0))) (λ j k. look (meanings neg conj disj) (map means (row_of (size rules.entry) self.old.values.now j)) (does_at (indexed_rules rules.entry) k)) k }
+        ensures values { (k : ℕ) → k ≤ horizon → map T.means (row_of (size rules.entry) self.new.values.now k) ≡ at_level (meanings T.neg T.conj T.disj) (indexed_rules rules.entry) (look (meanings T.neg T.conj T.disj) (map T.means (row_of (size rules.entry) self.old.values.now 0))) (λ j k. look (meanings T.neg T.conj T.disj) (map T.means (row_of (size rules.entry) self.old.values.now j)) (does_at (indexed_rules rules.entry) k)) k }
         ensures kept { KeptPast (size rules.entry) horizon self.old.values.now self.new.values.now }
         ensures len { length self.new.values.now ≡ length self.old.values.now }
         ensures lender { self.new.values.ghost_name ≡ self.old.values.ghost_name }

@@ -3,7 +3,7 @@ ghost use Rattle.truth.specs.declared.three.Three.TheVariants.{No};
 ghost use Rattle.rules.specs.Opens.{moves_of};
 ghost use Rattle.evaluate.specs.Indexing.{indexed_rules, size};
 ghost use Rattle.evaluate.specs.Positions.{fluents, choices, does_at, Joint, ModelOf};
-ghost use Rattle.evaluate.specs.Showing.{answer as answer_of, numbers, moves_fit as moves_fitting, chosen as ChosenOf, shows};
+ghost use Rattle.evaluate.specs.Showing.{answer as answer_of, numbers, moves_fit as moves_fitting, chosen as chosen_of, shows};
 ghost use Rattle.evaluate.specs.Evaluate.{look};
 ghost use Rattle.evaluate.specs.Grids.{Roomy, row as row_of};
 ghost use Rattle.evaluate.specs.Levels.{level_of};
@@ -38,7 +38,7 @@ fn moves_fit(moves: &[u16], joint: &[u16]) -> bool
 // Whether the joint move makes move `k`, counted from 0 by role and then by move.
 fn chosen(moves: &[u16], joint: &[u16], k: usize) -> bool
     requires { length moves.now ≡ length joint.now }
-    ensures { result ≡ ChosenOf moves.now joint.now k }
+    ensures { result ≡ chosen_of moves.now joint.now k }
 {
     let mut left = k;
     for role in 0..moves.len() {
@@ -65,7 +65,7 @@ fn put_position(position: &[bool], values: &mut [Three])
 fn put_moves(rules: Indexed<'_>, joint: &[u16], values: &mut [Three])
     requires each { length (moves_of (indexed_rules rules)) ≡ length joint.now }
     requires room { size rules ≤ length values.old }
-    ensures does { (k : ℕ) (d : Three) → k < choices (indexed_rules rules.entry) → slice_index_or values.new (does_at (indexed_rules rules.entry) k) d ≡ answer_of (ChosenOf (moves_of (indexed_rules rules.entry)) joint.now k) }
+    ensures does { (k : ℕ) (d : Three) → k < choices (indexed_rules rules.entry) → slice_index_or values.new (does_at (indexed_rules rules.entry) k) d ≡ answer_of (chosen_of (moves_of (indexed_rules rules.entry)) joint.now k) }
     ensures below { (a : ℕ) (d : Three) → a < fluents (indexed_rules rules.entry) → slice_index_or values.new a d ≡ slice_index_or values.old a d }
 {
     let layout = rules.rules.layout();
@@ -78,7 +78,7 @@ fn put_moves(rules: Indexed<'_>, joint: &[u16], values: &mut [Three])
 // Evaluates level 0 of the lent values.
 fn first_level<T: TruthForm>(rules: Indexed<'_>, values: &mut [T])
     requires { Roomy values.old }
-    ensures values { map means (row_of (size rules.entry) values.new 0) ≡ level_of (meanings neg conj disj) (indexed_rules rules.entry) (look (meanings neg conj disj) (map means (row_of (size rules.entry) values.old 0))) (λ k. look (meanings neg conj disj) (map means (row_of (size rules.entry) values.old 0)) (does_at (indexed_rules rules.entry) k)) }
+    ensures values { map T.means (row_of (size rules.entry) values.new 0) ≡ level_of (meanings T.neg T.conj T.disj) (indexed_rules rules.entry) (look (meanings T.neg T.conj T.disj) (map T.means (row_of (size rules.entry) values.old 0))) (λ k. look (meanings T.neg T.conj T.disj) (map T.means (row_of (size rules.entry) values.old 0)) (does_at (indexed_rules rules.entry) k)) }
     ensures len { length values.new ≡ length values.old }
 {
     let mut grid = Grid { values };

@@ -17,7 +17,7 @@ impl<'a, T: TruthForm> Grid<'a, T> {
     fn head(&self, rules: Indexed<'_>, atom: u16) -> T
         requires atom { atom < size rules }
         requires room { Roomy self.now.values.now }
-        ensures { means result ≡ head_of (meanings neg conj disj) (program_of (indexed_rules rules.entry)) (map means (row_of (size rules.entry) self.now.values.now last_round)) atom }
+        ensures { T.means result ≡ head_of (meanings T.neg T.conj T.disj) (program_of (indexed_rules rules.entry)) (map T.means (row_of (size rules.entry) self.now.values.now last_round)) atom }
     {
         let from = LAST_ROUND * WIDTH;
         let to = from + rules.rules.atoms().len();
@@ -34,7 +34,7 @@ impl<'a, T: TruthForm> Grid<'a, T> {
         requires s { s < 32 }
         requires row { row < 6 }
         requires room { Roomy self.old.values.now }
-        ensures values { map means (row_of (size rules.entry) self.new.values.now row) ≡ cleared (meanings neg conj disj) (program_of (indexed_rules rules.entry)) s (map means (row_of (size rules.entry) self.old.values.now row)) }
+        ensures values { map T.means (row_of (size rules.entry) self.new.values.now row) ≡ cleared (meanings T.neg T.conj T.disj) (program_of (indexed_rules rules.entry)) s (map T.means (row_of (size rules.entry) self.old.values.now row)) }
         ensures kept { KeptBut (size rules.entry) row self.old.values.now self.new.values.now }
         ensures len { length self.new.values.now ≡ length self.old.values.now }
         ensures lender { self.new.values.ghost_name ≡ self.old.values.ghost_name }
@@ -50,7 +50,7 @@ impl<'a, T: TruthForm> Grid<'a, T> {
         requires s { s < 32 }
         requires level { level < 5 }
         requires room { Roomy self.old.values.now }
-        ensures values { map means (row_of (size rules.entry) self.new.values.now level) ≡ put_stratum (meanings neg conj disj) (program_of (indexed_rules rules.entry)) s (head_of (meanings neg conj disj) (program_of (indexed_rules rules.entry)) (map means (row_of (size rules.entry) self.old.values.now last_round))) (map means (row_of (size rules.entry) self.old.values.now level)) }
+        ensures values { map T.means (row_of (size rules.entry) self.new.values.now level) ≡ put_stratum (meanings T.neg T.conj T.disj) (program_of (indexed_rules rules.entry)) s (head_of (meanings T.neg T.conj T.disj) (program_of (indexed_rules rules.entry)) (map T.means (row_of (size rules.entry) self.old.values.now last_round))) (map T.means (row_of (size rules.entry) self.old.values.now level)) }
         ensures kept { KeptBut (size rules.entry) level self.old.values.now self.new.values.now }
         ensures len { length self.new.values.now ≡ length self.old.values.now }
         ensures lender { self.new.values.ghost_name ≡ self.old.values.ghost_name }
@@ -67,7 +67,7 @@ impl<'a, T: TruthForm> Grid<'a, T> {
         requires s { s < 32 }
         requires level { level < 5 }
         requires room { Roomy self.old.values.now }
-        ensures values { map means (row_of (size rules.entry) self.new.values.now last_round) ≡ put_stratum (meanings neg conj disj) (program_of (indexed_rules rules.entry)) s (look (meanings neg conj disj) (map means (row_of (size rules.entry) self.old.values.now level))) (map means (row_of (size rules.entry) self.old.values.now last_round)) }
+        ensures values { map T.means (row_of (size rules.entry) self.new.values.now last_round) ≡ put_stratum (meanings T.neg T.conj T.disj) (program_of (indexed_rules rules.entry)) s (look (meanings T.neg T.conj T.disj) (map T.means (row_of (size rules.entry) self.old.values.now level))) (map T.means (row_of (size rules.entry) self.old.values.now last_round)) }
         ensures kept { KeptBut (size rules.entry) last_round self.old.values.now self.new.values.now }
         ensures len { length self.new.values.now ≡ length self.old.values.now }
         ensures lender { self.new.values.ghost_name ≡ self.old.values.ghost_name }
@@ -83,7 +83,7 @@ impl<'a, T: TruthForm> Grid<'a, T> {
     pub(crate) fn copy(&mut self, rules: Indexed<'_>, level: usize)
         requires level { level < 5 }
         requires room { Roomy self.old.values.now }
-        ensures values { map means (row_of (size rules.entry) self.new.values.now last_round) ≡ map means (row_of (size rules.entry) self.old.values.now level) }
+        ensures values { map T.means (row_of (size rules.entry) self.new.values.now last_round) ≡ map T.means (row_of (size rules.entry) self.old.values.now level) }
         ensures kept { KeptBut (size rules.entry) last_round self.old.values.now self.new.values.now }
         ensures len { length self.new.values.now ≡ length self.old.values.now }
         ensures lender { self.new.values.ghost_name ≡ self.old.values.ghost_name }
@@ -99,9 +99,9 @@ impl<'a, T: TruthForm> Grid<'a, T> {
         requires s { s < 32 }
         requires level { level < 5 }
         requires room { Roomy self.old.values.now }
-        requires alike { map means (row_of (size rules) self.old.values.now last_round) ≡ map means (row_of (size rules) self.old.values.now level) }
-        ensures values { map means (row_of (size rules.entry) self.new.values.now level) ≡ round_of (meanings neg conj disj) (program_of (indexed_rules rules.entry)) s (map means (row_of (size rules.entry) self.old.values.now level)) }
-        ensures alike { map means (row_of (size rules.entry) self.new.values.now last_round) ≡ map means (row_of (size rules.entry) self.new.values.now level) }
+        requires alike { map T.means (row_of (size rules) self.old.values.now last_round) ≡ map T.means (row_of (size rules) self.old.values.now level) }
+        ensures values { map T.means (row_of (size rules.entry) self.new.values.now level) ≡ round_of (meanings T.neg T.conj T.disj) (program_of (indexed_rules rules.entry)) s (map T.means (row_of (size rules.entry) self.old.values.now level)) }
+        ensures alike { map T.means (row_of (size rules.entry) self.new.values.now last_round) ≡ map T.means (row_of (size rules.entry) self.new.values.now level) }
         ensures kept { KeptButLast (size rules.entry) level self.old.values.now self.new.values.now }
         ensures len { length self.new.values.now ≡ length self.old.values.now }
         ensures lender { self.new.values.ghost_name ≡ self.old.values.ghost_name }
@@ -115,9 +115,9 @@ impl<'a, T: TruthForm> Grid<'a, T> {
         requires s { s < 32 }
         requires level { level < 5 }
         requires room { Roomy self.old.values.now }
-        requires alike { map means (row_of (size rules) self.old.values.now last_round) ≡ map means (row_of (size rules) self.old.values.now level) }
-        ensures values { map means (row_of (size rules.entry) self.new.values.now level) ≡ cleared (meanings neg conj disj) (program_of (indexed_rules rules.entry)) s (map means (row_of (size rules.entry) self.old.values.now level)) }
-        ensures alike { map means (row_of (size rules.entry) self.new.values.now last_round) ≡ map means (row_of (size rules.entry) self.new.values.now level) }
+        requires alike { map T.means (row_of (size rules) self.old.values.now last_round) ≡ map T.means (row_of (size rules) self.old.values.now level) }
+        ensures values { map T.means (row_of (size rules.entry) self.new.values.now level) ≡ cleared (meanings T.neg T.conj T.disj) (program_of (indexed_rules rules.entry)) s (map T.means (row_of (size rules.entry) self.old.values.now level)) }
+        ensures alike { map T.means (row_of (size rules.entry) self.new.values.now last_round) ≡ map T.means (row_of (size rules.entry) self.new.values.now level) }
         ensures kept { KeptButLast (size rules.entry) level self.old.values.now self.new.values.now }
         ensures len { length self.new.values.now ≡ length self.old.values.now }
         ensures lender { self.new.values.ghost_name ≡ self.old.values.ghost_name }
@@ -131,9 +131,9 @@ impl<'a, T: TruthForm> Grid<'a, T> {
         requires s { s < 32 }
         requires level { level < 5 }
         requires room { Roomy self.old.values.now }
-        requires alike { map means (row_of (size rules) self.old.values.now last_round) ≡ map means (row_of (size rules) self.old.values.now level) }
-        ensures values { map means (row_of (size rules.entry) self.new.values.now level) ≡ stratum_done (meanings neg conj disj) (program_of (indexed_rules rules.entry)) s (map means (row_of (size rules.entry) self.old.values.now level)) }
-        ensures alike { map means (row_of (size rules.entry) self.new.values.now last_round) ≡ map means (row_of (size rules.entry) self.new.values.now level) }
+        requires alike { map T.means (row_of (size rules) self.old.values.now last_round) ≡ map T.means (row_of (size rules) self.old.values.now level) }
+        ensures values { map T.means (row_of (size rules.entry) self.new.values.now level) ≡ stratum_done (meanings T.neg T.conj T.disj) (program_of (indexed_rules rules.entry)) s (map T.means (row_of (size rules.entry) self.old.values.now level)) }
+        ensures alike { map T.means (row_of (size rules.entry) self.new.values.now last_round) ≡ map T.means (row_of (size rules.entry) self.new.values.now level) }
         ensures kept { KeptButLast (size rules.entry) level self.old.values.now self.new.values.now }
         ensures len { length self.new.values.now ≡ length self.old.values.now }
         ensures lender { self.new.values.ghost_name ≡ self.old.values.ghost_name }

@@ -29,7 +29,7 @@ pub fn values_show_breaks() -> u8
 
 // Does atoms of the last level do not matter: at any form, and over yes and no.
 pub fn last_moves_do_not_matter<T: TruthForm>() -> u8
-    ensures { LastMovesDoNotMatter (meanings neg conj disj) }
+    ensures { LastMovesDoNotMatter (meanings T.neg T.conj T.disj) }
 {
     0
 }
@@ -42,35 +42,35 @@ pub fn last_answers_do_not_matter() -> u8
 
 // Where the inputs allow answers in a world, the value of the part allows what they give there.
 pub fn parts_are_sound<T: TruthForm>() -> u8
-    ensures { PartsAreSound (meanings neg conj disj) }
+    ensures { PartsAreSound (meanings T.neg T.conj T.disj) }
 {
     0
 }
 
 // Where the inputs are settled, so is the value of the part.
 pub fn parts_are_settled<T: TruthForm>() -> u8
-    ensures { PartsAreSettled (meanings neg conj disj) }
+    ensures { PartsAreSettled (meanings T.neg T.conj T.disj) }
 {
     0
 }
 
 // The value of the part allows the mark of every play that the inputs allow.
 pub fn marks_are_allowed<T: TruthForm>() -> u8
-    ensures { MarksAreAllowed (meanings neg conj disj) }
+    ensures { MarksAreAllowed (meanings T.neg T.conj T.disj) }
 {
     0
 }
 
 // Over settled inputs it is exactly the mark of the play that they allow, in every world.
 pub fn marks_are_exact<T: TruthForm>() -> u8
-    ensures { MarksAreExact (meanings neg conj disj) }
+    ensures { MarksAreExact (meanings T.neg T.conj T.disj) }
 {
     0
 }
 
 // Where it is no, no play that the inputs allow breaks the part.
 pub fn closed_means_unbroken<T: TruthForm>() -> u8
-    ensures { ClosedMeansUnbroken (meanings neg conj disj) }
+    ensures { ClosedMeansUnbroken (meanings T.neg T.conj T.disj) }
 {
     0
 }

@@ -16,7 +16,7 @@ pub fn value_at<T: TruthForm>(grid: &Grid<'_, T>, rules: &Rules, level: usize, a
     requires level { level < 5 }
     requires atom { atom < length (atoms_of rules.now) }
     requires room { Roomy grid.now.values.now }
-    ensures { (L : ℕ → List (World → Answers)) → LevelIn means rules.now grid.now.values.now L level → means result ≡ at_of (meanings neg conj disj) rules.now L level atom }
+    ensures { (L : ℕ → List (T.World → Answers)) → LevelIn T.means rules.now grid.now.values.now L level → T.means result ≡ at_of (meanings T.neg T.conj T.disj) rules.now L level atom }
 {
     grid.get(level, atom)
 }
@@ -25,7 +25,7 @@ pub fn value_at<T: TruthForm>(grid: &Grid<'_, T>, rules: &Rules, level: usize, a
 pub fn ended<T: TruthForm>(grid: &Grid<'_, T>, rules: &Rules, level: usize) -> T
     requires level { level < 5 }
     requires room { Roomy grid.now.values.now }
-    ensures { (L : ℕ → List (World → Answers)) → LevelIn means rules.now grid.now.values.now L level → means result ≡ EndedOf (meanings neg conj disj) rules.now L level }
+    ensures { (L : ℕ → List (T.World → Answers)) → LevelIn T.means rules.now grid.now.values.now L level → T.means result ≡ EndedOf (meanings T.neg T.conj T.disj) rules.now L level }
 {
     let layout = rules.layout();
     let terminal = 2 * usize::from(layout.fluents) + 2 * usize::from(layout.moves);
@@ -42,7 +42,7 @@ fn undone_or_legal<T: TruthForm>(
     requires level { level < 5 }
     requires choice { choice < choices rules.now }
     requires room { Roomy grid.now.values.now }
-    ensures { (L : ℕ → List (World → Answers)) → LevelIn means rules.now grid.now.values.now L level → means result ≡ undone_or_legal_of (meanings neg conj disj) rules.now L level choice }
+    ensures { (L : ℕ → List (T.World → Answers)) → LevelIn T.means rules.now grid.now.values.now L level → T.means result ≡ undone_or_legal_of (meanings T.neg T.conj T.disj) rules.now L level choice }
 {
     let layout = rules.layout();
     let does = 2 * usize::from(layout.fluents) + choice;
@@ -55,7 +55,7 @@ fn undone_or_legal<T: TruthForm>(
 pub fn every_move<T: TruthForm>(grid: &Grid<'_, T>, rules: &Rules, level: usize) -> T
     requires level { level < 5 }
     requires room { Roomy grid.now.values.now }
-    ensures { (L : ℕ → List (World → Answers)) → LevelIn means rules.now grid.now.values.now L level → means result ≡ every_move_of (meanings neg conj disj) rules.now L level }
+    ensures { (L : ℕ → List (T.World → Answers)) → LevelIn T.means rules.now grid.now.values.now L level → T.means result ≡ every_move_of (meanings T.neg T.conj T.disj) rules.now L level }
 {
     let mut all = T::yes();
     for choice in 0..usize::from(rules.layout().moves) {
@@ -69,7 +69,7 @@ pub fn every_move<T: TruthForm>(grid: &Grid<'_, T>, rules: &Rules, level: usize)
 pub fn legality<T: TruthForm>(grid: &Grid<'_, T>, rules: &Rules, horizon: usize) -> T
     requires horizon { horizon < 5 }
     requires room { Roomy grid.now.values.now }
-    ensures { (L : ℕ → List (World → Answers)) → LevelsIn means rules.now grid.now.values.now L horizon → means result ≡ legality_of (meanings neg conj disj) rules.now L horizon }
+    ensures { (L : ℕ → List (T.World → Answers)) → LevelsIn T.means rules.now grid.now.values.now L horizon → T.means result ≡ legality_of (meanings T.neg T.conj T.disj) rules.now L horizon }
 {
     let mut all = T::yes();
     let mut over = T::no();

@@ -34,7 +34,7 @@ pub fn property_value<T: TruthForm>(
     requires fits { Fits rules.now (records_of property.now) }
     requires horizon { horizon < 5 }
     requires room { Spacious grid.old.values.now }
-    ensures value { (L : ℕ → List (World → Answers)) → LevelsIn means rules.now grid.old.values.now L horizon → means result ≡ value (meanings neg conj disj) rules.now L (tree_of property.now) 0 horizon }
+    ensures value { (L : ℕ → List (T.World → Answers)) → LevelsIn T.means rules.now grid.old.values.now L horizon → T.means result ≡ value (meanings T.neg T.conj T.disj) rules.now L (tree_of property.now) 0 horizon }
     ensures kept { KeptBesideTable grid.old.values.now grid.new.values.now }
     ensures len { length grid.new.values.now ≡ length grid.old.values.now }
     ensures lender { grid.new.values.ghost_name ≡ grid.old.values.ghost_name }
@@ -55,7 +55,7 @@ fn and_assumed<T: TruthForm>(
     requires fits { All (λ (q : Property). Fits rules.now (records_of q)) docket.now }
     requires horizon { horizon < 5 }
     requires room { Spacious grid.old.values.now }
-    ensures value { (L : ℕ → List (World → Answers)) → LevelsIn means rules.now grid.old.values.now L horizon → means result ≡ each_value (meanings neg conj disj) rules.now L (means first) (filter (λ q. may_assume degree (degree_of q)) (map tree_of docket.now)) horizon }
+    ensures value { (L : ℕ → List (T.World → Answers)) → LevelsIn T.means rules.now grid.old.values.now L horizon → T.means result ≡ each_value (meanings T.neg T.conj T.disj) rules.now L (T.means first) (filter (λ q. may_assume degree (degree_of q)) (map tree_of docket.now)) horizon }
     ensures kept { KeptBesideTable grid.old.values.now grid.new.values.now }
     ensures len { length grid.new.values.now ≡ length grid.old.values.now }
     ensures lender { grid.new.values.ghost_name ≡ grid.old.values.ghost_name }
@@ -74,7 +74,7 @@ fn and_assumed<T: TruthForm>(
 fn base_value<T: TruthForm>(grid: &mut Grid<'_, T>, rules: &Rules, property: &Property) -> T
     requires fits { Fits rules.now (records_of property.now) }
     requires room { Spacious grid.old.values.now }
-    ensures value { (L : ℕ → List (World → Answers)) → LevelsIn means rules.now grid.old.values.now L (degree_of (tree_of property.now)) → means result ≡ part_value_of (meanings neg conj disj) rules.now L Base [] (tree_of property.now) }
+    ensures value { (L : ℕ → List (T.World → Answers)) → LevelsIn T.means rules.now grid.old.values.now L (degree_of (tree_of property.now)) → T.means result ≡ part_value_of (meanings T.neg T.conj T.disj) rules.now L Base [] (tree_of property.now) }
     ensures kept { KeptBesideTable grid.old.values.now grid.new.values.now }
     ensures len { length grid.new.values.now ≡ length grid.old.values.now }
     ensures lender { grid.new.values.ghost_name ≡ grid.old.values.ghost_name }
@@ -95,7 +95,7 @@ fn step_value<T: TruthForm>(
     requires fits { Fits rules.now (records_of property.now) }
     requires all { All (λ (q : Property). Fits rules.now (records_of q)) docket.now }
     requires room { Spacious grid.old.values.now }
-    ensures value { (L : ℕ → List (World → Answers)) → LevelsIn means rules.now grid.old.values.now L (degree_of (tree_of property.now) + 1) → means result ≡ part_value_of (meanings neg conj disj) rules.now L Step (map tree_of docket.now) (tree_of property.now) }
+    ensures value { (L : ℕ → List (T.World → Answers)) → LevelsIn T.means rules.now grid.old.values.now L (degree_of (tree_of property.now) + 1) → T.means result ≡ part_value_of (meanings T.neg T.conj T.disj) rules.now L Step (map tree_of docket.now) (tree_of property.now) }
     ensures kept { KeptBesideTable grid.old.values.now grid.new.values.now }
     ensures len { length grid.new.values.now ≡ length grid.old.values.now }
     ensures lender { grid.new.values.ghost_name ≡ grid.old.values.ghost_name }
@@ -121,7 +121,7 @@ pub fn part_value<T: TruthForm>(
     requires fits { Fits rules.now (records_of property.now) }
     requires all { All (λ (q : Property). Fits rules.now (records_of q)) docket.now }
     requires room { Spacious grid.old.values.now }
-    ensures value { (L : ℕ → List (World → Answers)) → LevelsIn means rules.now grid.old.values.now L (horizon_of part (degree_of (tree_of property.now))) → means result ≡ part_value_of (meanings neg conj disj) rules.now L part (map tree_of docket.now) (tree_of property.now) }
+    ensures value { (L : ℕ → List (T.World → Answers)) → LevelsIn T.means rules.now grid.old.values.now L (horizon_of part (degree_of (tree_of property.now))) → T.means result ≡ part_value_of (meanings T.neg T.conj T.disj) rules.now L part (map tree_of docket.now) (tree_of property.now) }
     ensures kept { KeptBesideTable grid.old.values.now grid.new.values.now }
     ensures len { length grid.new.values.now ≡ length grid.old.values.now }
     ensures lender { grid.new.values.ghost_name ≡ grid.old.values.ghost_name }
@@ -144,7 +144,7 @@ pub fn evaluate_part<T: TruthForm>(
     requires fits { Fits (indexed_rules rules) (records_of property.now) }
     requires all { All (λ (q : Property). Fits (indexed_rules rules) (records_of q)) docket.now }
     requires room { Spacious grid.old.values.now }
-    ensures value { means result ≡ part_value_of (meanings neg conj disj) (indexed_rules rules.entry) (at_level (meanings neg conj disj) (indexed_rules rules.entry) (look (meanings neg conj disj) (map means (row_of (size rules.entry) grid.old.values.now 0))) (λ j c. look (meanings neg conj disj) (map means (row_of (size rules.entry) grid.old.values.now j)) (does_at (indexed_rules rules.entry) c))) part (map tree_of docket.now) (tree_of property.now) }
+    ensures value { T.means result ≡ part_value_of (meanings T.neg T.conj T.disj) (indexed_rules rules.entry) (at_level (meanings T.neg T.conj T.disj) (indexed_rules rules.entry) (look (meanings T.neg T.conj T.disj) (map T.means (row_of (size rules.entry) grid.old.values.now 0))) (λ j c. look (meanings T.neg T.conj T.disj) (map T.means (row_of (size rules.entry) grid.old.values.now j)) (does_at (indexed_rules rules.entry) c))) part (map tree_of docket.now) (tree_of property.now) }
     ensures kept { (i : ℕ) (d : T) → table_end ≤ i → slice_index_or grid.new.values.now i d ≡ slice_index_or grid.old.values.now i d }
     ensures len { length grid.new.values.now ≡ length grid.old.values.now }
     ensures lender { grid.new.values.ghost_name ≡ grid.old.values.ghost_name }

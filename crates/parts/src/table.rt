@@ -27,7 +27,7 @@ pub fn entry<T: TruthForm>(grid: &Grid<'_, T>, level: usize, number: u16) -> T
     requires above { 0 < number }
     requires within { number ≤ 64 }
     requires room { Spacious grid.now.values.now }
-    ensures { means result ≡ look (meanings neg conj disj) (map means grid.now.values.now) (entry_at level number) }
+    ensures { T.means result ≡ look (meanings T.neg T.conj T.disj) (map T.means grid.now.values.now) (entry_at level number) }
 {
     grid.get(TABLE, MOST_RECORDS * level + (usize::from(number) - 1))
 }
@@ -50,7 +50,7 @@ fn all_entries<T: TruthForm>(grid: &Grid<'_, T>, records: &[Record], first: u16,
     requires first { first ≤ length records.now }
     requires level { level < 5 }
     requires room { Spacious grid.now.values.now }
-    ensures { (R : Rules) (L : ℕ → List (World → Answers)) (left i : ℕ) → (0 < first → i < first) → FilledBehind (meanings neg conj disj) means R records.now L grid.now.values.now level left i → means result ≡ all_value (meanings neg conj disj) R L (meanings neg conj disj).yes' (reading_at records.now first).operands level left }
+    ensures { (R : Rules) (L : ℕ → List (T.World → Answers)) (left i : ℕ) → (0 < first → i < first) → FilledBehind (meanings T.neg T.conj T.disj) T.means R records.now L grid.now.values.now level left i → T.means result ≡ all_value (meanings T.neg T.conj T.disj) R L (meanings T.neg T.conj T.disj).yes' (reading_at records.now first).operands level left }
 {
     let mut all = T::yes();
     let mut at = first;
@@ -65,7 +65,7 @@ fn all_entries<T: TruthForm>(grid: &Grid<'_, T>, records: &[Record], first: u16,
 pub fn ended_or<T: TruthForm>(grid: &Grid<'_, T>, rules: &Rules, level: usize, later: T) -> T
     requires level { level < 5 }
     requires room { Roomy grid.now.values.now }
-    ensures { (L : ℕ → List (World → Answers)) → LevelIn means rules.now grid.now.values.now L level → means result ≡ ended_or_of (meanings neg conj disj) rules.now L level (means later) }
+    ensures { (L : ℕ → List (T.World → Answers)) → LevelIn T.means rules.now grid.now.values.now L level → T.means result ≡ ended_or_of (meanings T.neg T.conj T.disj) rules.now L level (T.means later) }
 {
     T::no().or(ended(grid, rules, level)).or(later)
 }
@@ -86,7 +86,7 @@ fn record_value<T: TruthForm>(
     requires within { number ≤ length records.now }
     requires level { level + left < 5 }
     requires room { Spacious grid.now.values.now }
-    ensures { (L : ℕ → List (World → Answers)) → LevelIn means rules.now grid.now.values.now L level → (0 < left → FilledBehind (meanings neg conj disj) means rules.now records.now L grid.now.values.now (level + 1) (left - 1) 0) → FilledBehind (meanings neg conj disj) means rules.now records.now L grid.now.values.now level left number → means result ≡ value (meanings neg conj disj) rules.now L (reading_at records.now number).whole level left }
+    ensures { (L : ℕ → List (T.World → Answers)) → LevelIn T.means rules.now grid.now.values.now L level → (0 < left → FilledBehind (meanings T.neg T.conj T.disj) T.means rules.now records.now L grid.now.values.now (level + 1) (left - 1) 0) → FilledBehind (meanings T.neg T.conj T.disj) T.means rules.now records.now L grid.now.values.now level left number → T.means result ≡ value (meanings T.neg T.conj T.disj) rules.now L (reading_at records.now number).whole level left }
 {
     match records[usize::from(number) - 1].formula {
         Formula::Atom(atom) => value_at(grid, rules, level, usize::from(atom) - 1),
@@ -115,7 +115,7 @@ fn fill_level<T: TruthForm>(
     requires fits { Fits rules.now records.now }
     requires level { level + left < 5 }
     requires room { Spacious grid.old.values.now }
-    ensures values { (L : ℕ → List (World → Answers)) → LevelIn means rules.now grid.old.values.now L level → (0 < left → FilledBehind (meanings neg conj disj) means rules.now records.now L grid.old.values.now (level + 1) (left - 1) 0) → FilledBehind (meanings neg conj disj) means rules.now records.now L grid.new.values.now level left 0 }
+    ensures values { (L : ℕ → List (T.World → Answers)) → LevelIn T.means rules.now grid.old.values.now L level → (0 < left → FilledBehind (meanings T.neg T.conj T.disj) T.means rules.now records.now L grid.old.values.now (level + 1) (left - 1) 0) → FilledBehind (meanings T.neg T.conj T.disj) T.means rules.now records.now L grid.new.values.now level left 0 }
     ensures kept { KeptBesideLevel level grid.old.values.now grid.new.values.now }
     ensures len { length grid.new.values.now ≡ length grid.old.values.now }
     ensures lender { grid.new.values.ghost_name ≡ grid.old.values.ghost_name }
@@ -134,7 +134,7 @@ pub fn fill<T: TruthForm>(grid: &mut Grid<'_, T>, rules: &Rules, records: &[Reco
     requires fits { Fits rules.now records.now }
     requires horizon { horizon < 5 }
     requires room { Spacious grid.old.values.now }
-    ensures values { (L : ℕ → List (World → Answers)) → LevelsIn means rules.now grid.old.values.now L horizon → FilledFrom (meanings neg conj disj) means rules.now records.now L grid.new.values.now 0 horizon }
+    ensures values { (L : ℕ → List (T.World → Answers)) → LevelsIn T.means rules.now grid.old.values.now L horizon → FilledFrom (meanings T.neg T.conj T.disj) T.means rules.now records.now L grid.new.values.now 0 horizon }
     ensures kept { KeptBesideTable grid.old.values.now grid.new.values.now }
     ensures len { length grid.new.values.now ≡ length grid.old.values.now }
     ensures lender { grid.new.values.ghost_name ≡ grid.old.values.ghost_name }

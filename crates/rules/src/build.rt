@@ -69,7 +69,7 @@ impl File<'_> {
 
     // The move counts, by role.
     pub fn moves(self, heap: Global) -> Result<Vec<u16>, AllocError>
-        ensures* { λ r. ⌜ IfOk r (λ v. v.items ≡ map (λ r. word_at self.entry.bytes.now (6 + r)) (range_with_len 0 self.entry.layout.roles)) ⌝ }
+        ensures { IfOk result (λ v. v.items ≡ map (λ role. word_at self.entry.bytes.now (6 + role)) (range_with_len 0 self.entry.layout.roles)) }
     {
         let mut moves = Vec::new(heap);
         for role in 0..self.layout.roles {

@@ -56,7 +56,7 @@ pub trait TruthForm: Copy {
 
 // The laws of a form, as one record for proofs about code that is generic over it.
 pub fn laws_stand<T: TruthForm>() -> u8
-    ensures { Laws neg conj disj }
+    ensures { Laws T.neg T.conj T.disj }
 {
     0
 }

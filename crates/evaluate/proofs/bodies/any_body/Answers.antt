@@ -14,7 +14,7 @@ body-requires g c =
     let k = c.loop-at.at in
     let p : 0 < k = omega arith in
     record {
-      first = subst (λ (r : Rule). r.first ≤ R.layout.literals) (sym c.rule-record-r.ensures) ((rules_linked R).first_literals k p c.loop-at.invariant.0);
+      first = subst (λ (r : Rule). r.first ≤ R.layout.literals) (sym c.rule_record-r.ensures) ((rules_linked R).first_literals k p c.loop-at.invariant.0);
       values = c.requires.values;
     }
 
@@ -30,7 +30,7 @@ loop-at-smaller g c =
     let R = c.args.rules.now in
     let k = c.loop-at.at in
     let p : 0 < k = omega arith in
-    let goes = subst (λ (r : Rule). bodies_from R k ≡ body_from R r.first ∷ bodies_from R r.next) (sym c.rule-record-r.ensures) (bodies_go R k p c.loop-at.invariant.0) in
+    let goes = subst (λ (r : Rule). bodies_from R k ≡ body_from R r.first ∷ bodies_from R r.next) (sym c.rule_record-r.ensures) (bodies_go R k p c.loop-at.invariant.0) in
     omega (arith, ap length goes)
 
 pub loop-at-preserved : goal.loop-at-preserved
@@ -41,9 +41,9 @@ loop-at-preserved g c =
     let R = c.args.rules.now in
     let k = c.loop-at.at in
     let p : 0 < k = omega arith in
-    let goes = subst (λ (r : Rule). bodies_from R k ≡ body_from R r.first ∷ bodies_from R r.next) (sym c.rule-record-r.ensures) (bodies_go R k p c.loop-at.invariant.0) in (
-      subst (λ (r : Rule). r.next ≤ R.layout.rules) (sym c.rule-record-r.ensures) ((rules_linked R).next_rules k p c.loop-at.invariant.0).1,
-      ap (λ v. any_of o at v (bodies_from R c.rule-record-r.result.next)) (c.or-any.ensures ∙ ap (t.disj (t.means c.loop-at.any)) c.body.ensures)
+    let goes = subst (λ (r : Rule). bodies_from R k ≡ body_from R r.first ∷ bodies_from R r.next) (sym c.rule_record-r.ensures) (bodies_go R k p c.loop-at.invariant.0) in (
+      subst (λ (r : Rule). r.next ≤ R.layout.rules) (sym c.rule_record-r.ensures) ((rules_linked R).next_rules k p c.loop-at.invariant.0).1,
+      ap (λ v. any_of o at v (bodies_from R c.rule_record-r.result.next)) (c.or-any.ensures ∙ ap (t.disj (t.means c.loop-at.any)) c.body.ensures)
           ∙ sym (ap (any_of o at (t.means c.loop-at.any)) goes) ∙ c.loop-at.invariant.1,
     )
 

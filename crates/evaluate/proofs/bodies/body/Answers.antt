@@ -15,8 +15,8 @@ literal-requires g c =
     let p : 0 < k = omega arith in
     let n = (rules_linked R).named k p c.loop-at.invariant.0 in
     record {
-      above = subst (λ (l : Literal). 0 < l.atom) (sym c.literal-record-l.ensures) n.0;
-      within = subst (λ (l : Literal). l.atom ≤ length c.args.values.now) (sym c.literal-record-l.ensures) (omega (arith, n.1, atoms_are R, c.requires.values));
+      above = subst (λ (l : Literal). 0 < l.atom) (sym c.literal_record-l.ensures) n.0;
+      within = subst (λ (l : Literal). l.atom ≤ length c.args.values.now) (sym c.literal_record-l.ensures) (omega (arith, n.1, atoms_are R, c.requires.values));
     }
 
 pub loop-at-init : goal.loop-at-init
@@ -31,7 +31,7 @@ loop-at-smaller g c =
     let R = c.args.rules.now in
     let k = c.loop-at.at in
     let p : 0 < k = omega arith in
-    let goes = subst (λ (l : Literal). body_from R k ≡ part_of l ∷ body_from R l.next) (sym c.literal-record-l.ensures) (body_goes R k p c.loop-at.invariant.0) in
+    let goes = subst (λ (l : Literal). body_from R k ≡ part_of l ∷ body_from R l.next) (sym c.literal_record-l.ensures) (body_goes R k p c.loop-at.invariant.0) in
     omega (arith, ap length goes)
 
 pub loop-at-preserved : goal.loop-at-preserved
@@ -42,9 +42,9 @@ loop-at-preserved g c =
     let R = c.args.rules.now in
     let k = c.loop-at.at in
     let p : 0 < k = omega arith in
-    let goes = subst (λ (l : Literal). body_from R k ≡ part_of l ∷ body_from R l.next) (sym c.literal-record-l.ensures) (body_goes R k p c.loop-at.invariant.0) in (
-      subst (λ (l : Literal). l.next ≤ R.layout.literals) (sym c.literal-record-l.ensures) ((rules_linked R).next_literals k p c.loop-at.invariant.0).1,
-      ap (λ v. body o at v (body_from R c.literal-record-l.result.next)) (c.and-all.ensures ∙ ap (t.conj (t.means c.loop-at.all)) c.literal.ensures)
+    let goes = subst (λ (l : Literal). body_from R k ≡ part_of l ∷ body_from R l.next) (sym c.literal_record-l.ensures) (body_goes R k p c.loop-at.invariant.0) in (
+      subst (λ (l : Literal). l.next ≤ R.layout.literals) (sym c.literal_record-l.ensures) ((rules_linked R).next_literals k p c.loop-at.invariant.0).1,
+      ap (λ v. body o at v (body_from R c.literal_record-l.result.next)) (c.and-all.ensures ∙ ap (t.conj (t.means c.loop-at.all)) c.literal.ensures)
           ∙ sym (ap (body o at (t.means c.loop-at.all)) goes) ∙ c.loop-at.invariant.1,
     )
 

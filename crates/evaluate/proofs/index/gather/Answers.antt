@@ -8,7 +8,7 @@ use Rattle.evaluate.specs.Program.{atom_at}
 use Rattle.evaluate.proofs.Chains.{atoms_are}
 use Rattle.evaluate.proofs.Passings.{passing_none, passing_more, passing_same}
 use Rattle.evaluate.proofs.index.gather.Goals as goal
-use Rattle.evaluate.proofs.index.gather.Goals.{then-atoms-from+in-ok-push, else-atoms-from}
+use Rattle.evaluate.proofs.index.gather.Goals.{then-atoms-from+in_ok-push, else-atoms-from}
 
 pub loop-atom-init : goal.loop-atom-init
 loop-atom-init c = sym (ap (λ l. vec_items c.args.atoms.now ++ l) (passing_none _) ∙ append-nil _)
@@ -23,8 +23,8 @@ loop-atom-preserved c =
     let p = λ (a : ℕ). eqb (atom_at R a).stratum c.args.s in
     let a = c.loop-atom.atom in
     elim c.if-atoms-from.branch [
-      | then-atoms-from+in-ok-push w ↦
-          passing_more p a _ _ c.loop-atom.invariant _ (eq-eqb _ _ (read c ∙ w.if-atoms-from.true)) (ap vec_items w.atoms-is ∙ w.in-ok-push.ensures.items)
+      | then-atoms-from+in_ok-push w ↦
+          passing_more p a _ _ c.loop-atom.invariant _ (eq-eqb _ _ (read c ∙ w.if-atoms-from.true)) (ap vec_items w.atoms-is ∙ w.in_ok-push.ensures.items)
       | else-atoms-from w ↦ ap vec_items w.atoms-is ∙ passing_same p a _ _ c.loop-atom.invariant (ne_eqb _ _ (λ e. w.if-atoms-from.false (sym (read c) ∙ e)))
     ]
 

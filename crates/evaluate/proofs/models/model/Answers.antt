@@ -12,10 +12,10 @@ use Rattle.evaluate.proofs.Rows.{row_at, row_length}
 use Rattle.evaluate.proofs.Shown.{fit_length, chosen_does, row_shows}
 use Rattle.evaluate.proofs.models.model.Goals as goal
 
-pub put-moves-requires : goal.put-moves-requires
-put-moves-requires c =
+pub put_moves-requires : goal.put_moves-requires
+put_moves-requires c =
     let R = indexed_rules c.args.rules in
-    let fit : moves_fit (moves_of R) c.args.joint.now ≡ true = ap (λ l. moves_fit l c.args.joint.now) (sym c.moves.ensures) ∙ sym c.if-not-moves-fit.ensures in
+    let fit : moves_fit (moves_of R) c.args.joint.now ≡ true = ap (λ l. moves_fit l c.args.joint.now) (sym c.moves.ensures) ∙ sym c.if-not-moves_fit.ensures in
     record {
       each = fit_length (moves_of R) c.args.joint.now fit;
       room = omega (arith, few_atoms R);
@@ -28,13 +28,13 @@ returns c =
     let n = size I in
     let S = c.args.position.now in
     let js = c.args.joint.now in
-    let ws = c.put-moves.new.values in
-    let xs = c.first-level.new.values in
+    let ws = c.put_moves.new.values in
+    let xs = c.first_level.new.values in
     let F : length S ≡ fluents R = c.if-position-fluents.false ∙ c.from-fluents.ensures ∙ ap (λ y. y.fluents) c.layout.ensures in
-    let fit : moves_fit (moves_of R) js ≡ true = ap (λ l. moves_fit l js) (sym c.moves.ensures) ∙ sym c.if-not-moves-fit.ensures in
+    let fit : moves_fit (moves_of R) js ≡ true = ap (λ l. moves_fit l js) (sym c.moves.ensures) ∙ sym c.if-not-moves_fit.ensures in
     let room : 6 * 512 ≤ length c.args.values.now = omega arith in
     let long : 0 * 512 + n ≤ length ws = omega (arith, few_atoms R) in
-    let long' : 0 * 512 + n ≤ length xs = omega (arith, few_atoms R, c.first-level.ensures.len) in
+    let long' : 0 * 512 + n ≤ length xs = omega (arith, few_atoms R, c.first_level.ensures.len) in
     record {
       shown = sym (and_from (eqb (length S) (fluents R)) (leb (6 * 512) (length c.args.values.now) && moves_fit (moves_of R) js) (eq-eqb (length S) (fluents R) F)
           (and_from (leb (6 * 512) (length c.args.values.now)) (moves_fit (moves_of R) js) (le-leb (6 * 512) (length c.args.values.now) room) fit));
@@ -43,14 +43,14 @@ returns c =
           let start : (k : ℕ) → k < fluents R → get_or (row n ws 0) k No ≡ answer (holds_in S k) = λ k l.
           let i : k < n = omega (arith, enough R) in
           let e : 0 * 512 + k ≡ k = omega arith in
-          row_at n ws 0 k No i ∙ ap (λ j. get_or ws j No) e ∙ c.put-moves.ensures.below k No l ∙ c.put-position.ensures k No
+          row_at n ws 0 k No i ∙ ap (λ j. get_or ws j No) e ∙ c.put_moves.ensures.below k No l ∙ c.put_position.ensures k No
           ∙ cond-true (ltb k (length S)) (answer (holds_in S k)) (get_or c.args.values.now k No) (lt-ltb k (length S) (omega arith)) in
           let doing : (k : ℕ) → k < choices R → get_or (row n ws 0) (does_at R k) No ≡ answer (does A k) = λ k l.
           let i : does_at R k < n = omega (arith, enough R) in
           let e : 0 * 512 + does_at R k ≡ does_at R k = omega arith in
-          row_at n ws 0 (does_at R k) No i ∙ ap (λ j. get_or ws j No) e ∙ c.put-moves.ensures.does k No l
+          row_at n ws 0 (does_at R k) No i ∙ ap (λ j. get_or ws j No) e ∙ c.put_moves.ensures.does k No l
           ∙ ap answer (ap (λ ms. chosen (moves_of R) ms k) (sym made) ∙ chosen_does A k) in
           let e : 0 * 512 + a ≡ a = omega arith in
           ap (λ j. get_or xs j No) (sym e) ∙ sym (row_at n xs 0 a No h)
-          ∙ row_shows R S A M m (row n ws 0) (row n xs 0) (row_length n ws 0 long) (row_length n xs 0 long') start doing c.first-level.ensures.values a h;
+          ∙ row_shows R S A M m (row n ws 0) (row n xs 0) (row_length n ws 0 long) (row_length n xs 0 long') start doing c.first_level.ensures.values a h;
     }

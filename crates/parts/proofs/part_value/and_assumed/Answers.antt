@@ -39,7 +39,7 @@ loop-i-preserved g c =
     let asked : test (tree_of q) ≡ c.assumes.result = ap (may_assume c.args.degree) (sym c.degree.ensures.tree) ∙ sym c.assumes.ensures in
     elim c.if-assumes.branch [
       | then-assumes w ↦ (
-        ap (λ G. G.values.name) w.grid-is ∙ w.property-value.ensures.lender ∙ inv.0,
+        ap (λ G. G.values.ghost_name) w.grid-is ∙ w.property-value.ensures.lender ∙ inv.0,
         ap (λ G. length G.values.now) w.grid-is ∙ w.property-value.ensures.len ∙ inv.1,
         (λ j d out. ap (λ G. get_or G.values.now j d) w.grid-is ∙ w.property-value.ensures.kept j d out ∙ inv.2 j d out),
         λ L levels.
@@ -49,7 +49,7 @@ loop-i-preserved g c =
             ∙ rest_taken o R L test docket H i q h c.index-docket-i.is v (asked ∙ w.if-assumes.true) ∙ inv.3 L levels,
       )
       | else-assumes w ↦ (
-        ap (λ G. G.values.name) w.grid-is ∙ inv.0,
+        ap (λ G. G.values.ghost_name) w.grid-is ∙ inv.0,
         ap (λ G. length G.values.now) w.grid-is ∙ inv.1,
         (λ j d out. ap (λ G. get_or G.values.now j d) w.grid-is ∙ inv.2 j d out),
         λ L levels.

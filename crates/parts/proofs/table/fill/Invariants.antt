@@ -11,7 +11,7 @@ invariant-loop-level g l =
     let R = l.rules in
     let was = l.initial.grid.values.now in
     let xs = l.grid.values.now in
-    (l.grid.values.name ≡ l.initial.grid.values.name)
+    (l.grid.values.ghost_name ≡ l.initial.grid.values.ghost_name)
     × (length xs ≡ length was)
     × KeptBesideTable was xs
     × ((L : ℕ → List (t.World → Answers)) → LevelsIn t.means R was L l.horizon

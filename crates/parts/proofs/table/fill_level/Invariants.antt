@@ -12,7 +12,7 @@ invariant-loop-i g l =
     let rs = l.records in
     let was = l.initial.grid.values.now in
     let xs = l.grid.values.now in
-    (l.grid.values.name ≡ l.initial.grid.values.name)
+    (l.grid.values.ghost_name ≡ l.initial.grid.values.ghost_name)
     × (length xs ≡ length was)
     × KeptBesideLevel l.level was xs
     × ((L : ℕ → List (t.World → Answers)) → LevelIn t.means R was L l.level

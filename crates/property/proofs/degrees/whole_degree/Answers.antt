@@ -11,8 +11,8 @@ pub bounds-degrees-from : goal.bounds-degrees-from
 bounds-degrees-from c =
     omega (arith, (operand_at c.args.records.now c.requires.linked c.loop-i.i c.from.result (omega arith) (omega arith) (c.from.ensures ∙ c.operand.ensures)).1)
 
-pub offset-bounds-degrees-from-in-loop-i : goal.offset-bounds-degrees-from-in-loop-i
-offset-bounds-degrees-from-in-loop-i c =
+pub offset_bounds-degrees-from-in-loop-i : goal.offset_bounds-degrees-from-in-loop-i
+offset_bounds-degrees-from-in-loop-i c =
     omega (arith, (next_at c.args.records.now c.requires.linked c.loop-i.i c.from-in-loop-i.result (omega arith) (omega arith) c.from-in-loop-i.ensures).1)
 
 pub bounds-degrees-from-in-loop-i : goal.bounds-degrees-from-in-loop-i

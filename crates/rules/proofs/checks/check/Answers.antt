@@ -4,10 +4,10 @@ use Rattle.rules.proofs.Firsts.{verdict_ok}
 use Rattle.rules.proofs.Passed.{passed_linked}
 use Rattle.rules.proofs.checks.check.Goals as goal
 
-pub check-conditions-requires : goal.check-conditions-requires
-check-conditions-requires c = record {
+pub check_conditions-requires : goal.check_conditions-requires
+check_conditions-requires c = record {
   linked = passed_linked _ _
-      (verdict_ok _ tt _ (sym c.check-atoms.ensures ∙ c.in-ok-check-atoms.was))
-      (verdict_ok _ tt _ (sym c.check-rules.ensures ∙ c.in-ok-check-rules.was))
-      (verdict_ok _ tt _ (sym c.check-literals.ensures ∙ c.in-ok-check-literals.was));
+      (verdict_ok _ tt _ (sym c.check_atoms.ensures ∙ c.in_ok-check_atoms.was))
+      (verdict_ok _ tt _ (sym c.check_rules.ensures ∙ c.in_ok-check_rules.was))
+      (verdict_ok _ tt _ (sym c.check_literals.ensures ∙ c.in_ok-check_literals.was));
 }

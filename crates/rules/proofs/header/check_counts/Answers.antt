@@ -5,11 +5,11 @@ use Rattle.rules.proofs.Firsts.{loop_stops, loop_goes}
 use Rattle.rules.proofs.Headers.{count_fault}
 use Rattle.rules.proofs.header.check_counts.Goals as goal
 
-pub returns-in-err-check-count : goal.returns-in-err-check-count
-returns-in-err-check-count c =
-    let p = err_from_is_err_and c.from-residual.result c.from-residual.ensures.1 in
-    rw (p.1, p.2) (ap (λ o. verdict o tt) (sym (loop_stops (count_fault c.args.bytes.now) c.loop-i.i 6 _ c.loop-i.invariant c.loop-i-test.true _ tt _ c.check-count.ensures c.in-err-check-count.was)))
+pub returns-in_err-check_count : goal.returns-in_err-check_count
+returns-in_err-check_count c =
+    let p = err_from_is_err_and c.from_residual.result c.from_residual.ensures.1 in
+    rw (p.1, p.2) (ap (λ o. verdict o tt) (sym (loop_stops (count_fault c.args.bytes.now) c.loop-i.i 6 _ c.loop-i.invariant c.loop-i-test.true _ tt _ c.check_count.ensures c.in_err-check_count.was)))
 
 pub loop-i-preserved : goal.loop-i-preserved
 loop-i-preserved c =
-    loop_goes (count_fault c.args.bytes.now) c.loop-i.i 6 _ c.loop-i.invariant c.loop-i-test.true _ tt _ c.check-count.ensures c.in-ok-check-count.was
+    loop_goes (count_fault c.args.bytes.now) c.loop-i.i 6 _ c.loop-i.invariant c.loop-i-test.true _ tt _ c.check_count.ensures c.in_ok-check_count.was

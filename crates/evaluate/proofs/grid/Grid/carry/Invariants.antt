@@ -11,5 +11,5 @@ use Rattle.evaluate.proofs.grid.Grid.carry.Given as goal
 abbrev pub invariant-loop-f : goal.invariant-loop-f
 invariant-loop-f g l =
     let t = g.T.TruthForm in
-    (l.self.values.name ≡ l.initial.self.values.name)
+    (l.self.values.ghost_name ≡ l.initial.self.values.ghost_name)
     × Filling t.means (λ a. look (meanings t.neg t.conj t.disj) (map t.means (row (size l.rules) l.initial.self.values.now l.level)) (next_at (indexed_rules l.rules) a)) (size l.rules) (l.level + 1) (every l.fluents) l.initial.self.values.now l.self.values.now l.f

@@ -11,8 +11,8 @@ use Rattle.evaluate.proofs.Chains.{first_within, few_atoms}
 use Rattle.evaluate.proofs.Rows.{row_between}
 use Rattle.evaluate.proofs.grid.Grid.head.Goals as goal
 
-pub any-body-requires : goal.any-body-requires
-any-body-requires g c =
+pub any_body-requires : goal.any_body-requires
+any_body-requires g c =
     let R = indexed_rules c.args.rules in
     let xs = c.args.self.now.values.now in
     let n = length c.atoms.result.now in
@@ -32,6 +32,6 @@ returns g c =
     let n = length c.atoms.result.now in
     let same : (get_or c.atoms-2.result.now c.from.result no_atom).first ≡ (atom_at R c.args.atom).first =
     ap (λ l. (get_or l c.from.result no_atom).first) c.atoms-2.ensures ∙ ap (λ k. (atom_at R k).first) c.from.ensures in
-    c.any-body.ensures
+    c.any_body.ensures
     ∙ ap₂ (λ l k. any_of o (look o (map t.means l)) (λ _. only_no) (bodies_from R k))
     (sym (row_between n xs last_round (2560 + n) refl) ∙ ap (λ k. row k xs last_round) (ap length c.atoms.ensures)) same

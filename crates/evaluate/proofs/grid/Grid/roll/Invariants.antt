@@ -15,5 +15,5 @@ invariant-loop-level g l =
     let n = size l.rules in
     let was = l.initial.self.values.now in
     let xs = l.self.values.now in
-    (length xs ≡ length was) × (l.self.values.name ≡ l.initial.self.values.name) × KeptPast n l.level was xs
+    (length xs ≡ length was) × (l.self.values.ghost_name ≡ l.initial.self.values.ghost_name) × KeptPast n l.level was xs
     × ((k : ℕ) → k ≤ l.level → map t.means (row n xs k) ≡ from_first o R (map t.means (row n was 0)) (λ j c. look o (map t.means (row n was j)) (does_at R c)) k)

@@ -13,6 +13,6 @@ invariant-loop-turn g l =
     let n = size l.rules in
     let was = l.initial.self.values.now in
     let xs = l.self.values.now in
-    (length xs ≡ length was) × (l.self.values.name ≡ l.initial.self.values.name) × KeptButLast n l.level was xs
+    (length xs ≡ length was) × (l.self.values.ghost_name ≡ l.initial.self.values.ghost_name) × KeptButLast n l.level was xs
     × (map t.means (row n xs last_round) ≡ map t.means (row n xs l.level))
     × (map t.means (row n xs l.level) ≡ rounds o (program_of (indexed_rules l.rules)) l.s l.turn (map t.means (row n was l.level)))

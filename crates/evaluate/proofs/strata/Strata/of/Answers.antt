@@ -15,25 +15,25 @@ pub loop-s-init : goal.loop-s-init
 loop-s-init c =
     let m = members c.args.rules.now in (
       c.new-atoms.ensures.items ∙ sym (listed_none m),
-      c.in-ok-push.ensures.items ∙ ap (λ l. l ++ 0 ∷ []) c.new-starts.ensures.items ∙ ap (λ k. k ∷ []) (sym (ap length (listed_none m))),
+      c.in_ok-push.ensures.items ∙ ap (λ l. l ++ 0 ∷ []) c.new-starts.ensures.items ∙ ap (λ k. k ∷ []) (sym (ap length (listed_none m))),
     )
 
 pub loop-s-preserved : goal.loop-s-preserved
 loop-s-preserved c =
     let m = members c.args.rules.now in
     let s = c.loop-s.s in
-    let atoms : vec_items c.gather.new.atoms ≡ listed m (s + 1) = c.in-ok-gather.ensures ∙ ap (λ l. l ++ m s) c.loop-s.invariant.0 ∙ sym (listed_more m s) in (
+    let atoms : vec_items c.gather.new.atoms ≡ listed m (s + 1) = c.in_ok-gather.ensures ∙ ap (λ l. l ++ m s) c.loop-s.invariant.0 ∙ sym (listed_more m s) in (
       atoms,
-      c.in-ok-push-2.ensures.items ∙ ap₂ (λ l k. l ++ k ∷ []) c.loop-s.invariant.1 (c.len.ensures ∙ c.gather.new.atoms.ok.0 ∙ ap length atoms)
+      c.in_ok-push-2.ensures.items ∙ ap₂ (λ l k. l ++ k ∷ []) c.loop-s.invariant.1 (c.len.ensures ∙ c.gather.new.atoms.ok.0 ∙ ap length atoms)
           ∙ sym (map-range_with_len_more (start m) 0 (s + 1) (s + 1) (omega arith)),
     )
 
-pub invariant-of-result : goal.invariant-of-result
-invariant-of-result c =
+pub invariant_of-result : goal.invariant_of-result
+invariant_of-result c =
     let m = members c.args.rules.now in
     let e : c.loop-s.s ≡ 32 = omega arith in
     let i = ended m _ _ _ e c.loop-s.invariant in
-    (starts_count m _ _ 32 i.1 i.0, (starts_rise m _ _ 32 i.1 i.0, (starts_within m _ _ 32 i.1 i.0, tt)))
+    record { counted = starts_count m _ _ 32 i.1 i.0; rising = starts_rise m _ _ 32 i.1 i.0; within = starts_within m _ _ 32 i.1 i.0 }
 
 pub returns : goal.returns
 returns c =

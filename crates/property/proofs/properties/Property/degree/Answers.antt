@@ -10,8 +10,8 @@ pub returns : goal.returns
 returns c =
     let p = c.args.self.now in
     record {
-      value = p.decreases;
-      most = subst (MostFollowings (records_of p) 1) (sym p.decreases) (most (records_of p) p.linked 1 (omega arith) (held_some p));
-      tree = p.decreases ∙ sym (tree_degree (records_of p));
+      value = p.measured;
+      most = subst (MostFollowings (records_of p) 1) (sym p.measured) (most (records_of p) p.linked 1 (omega arith) (held_some p));
+      tree = p.measured ∙ sym (tree_degree (records_of p));
       bound = p.low;
     }

@@ -9,15 +9,15 @@ use Rattle.property.specs.Words.{words_in, count_in}
 use Rattle.property.proofs.Fills.{fill_next, records_counted}
 use Rattle.property.proofs.text.Text.records.Goals as goal
 
-pub returns-in-err-records : goal.returns-in-err-records
-returns-in-err-records c =
-    let p = err_from_is_err_and c.from-residual.result c.from-residual.ensures.1 in
+pub returns-in_err-records : goal.returns-in_err-records
+returns-in_err-records c =
+    let p = err_from_is_err_and c.from_residual.result c.from_residual.ensures.1 in
     let bs = c.args.self.bytes.now in
     let R = c.args.rules.now in
     let n = records_counted (length bs) c.args.self.count c.args.self.sized in
     let f = record_fault R c.args.self.count (words_in bs) in
-    let found = loop_stops f (c.loop-i.i + 1) (c.args.self.count + 1) _ c.loop-i.invariant.1 (omega arith) _ (record_in (words_in bs) (c.loop-i.i + 1)) _ c.record.ensures c.in-err-records.was in
-    let whole : wrong_word R bs ≡ Some c.in-err-records.field-0.0 = ap (λ m. first (record_fault R m (words_in bs)) (range_with_len 1 m)) n ∙ found in
+    let found = loop_stops f (c.loop-i.i + 1) (c.args.self.count + 1) _ c.loop-i.invariant.1 (omega arith) _ (record_in (words_in bs) (c.loop-i.i + 1)) _ c.record.ensures c.in_err-records.was in
+    let whole : wrong_word R bs ≡ Some c.in_err-records.field-0.0 = ap (λ m. first (record_fault R m (words_in bs)) (range_with_len 1 m)) n ∙ found in
     rw (p.1, p.2) (ap (λ o. verdict o (records_in bs ++ replicate (64 - count_in bs) unused)) (sym whole))
 
 pub loop-i-preserved : goal.loop-i-preserved
@@ -25,9 +25,9 @@ loop-i-preserved c =
     let bs = c.args.self.bytes.now in
     let i = c.loop-i.i in
     let f = record_fault c.args.rules.now c.args.self.count (words_in bs) in
-    let v = verdict_value (f (i + 1)) (record_in (words_in bs) (i + 1)) _ (sym c.record.ensures ∙ c.in-ok-records.was) in (
+    let v = verdict_value (f (i + 1)) (record_in (words_in bs) (i + 1)) _ (sym c.record.ensures ∙ c.in_ok-records.was) in (
       fill_next (record_in (words_in bs)) unused 64 i c.loop-i.records c.from.result _ c.loop-i.invariant.0 (omega arith) c.from.ensures (sym v),
-      loop_goes f (i + 1) (c.args.self.count + 1) _ c.loop-i.invariant.1 (omega arith) _ (record_in (words_in bs) (i + 1)) _ c.record.ensures c.in-ok-records.was,
+      loop_goes f (i + 1) (c.args.self.count + 1) _ c.loop-i.invariant.1 (omega arith) _ (record_in (words_in bs) (i + 1)) _ c.record.ensures c.in_ok-records.was,
     )
 
 pub returns : goal.returns

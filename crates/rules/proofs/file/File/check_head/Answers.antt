@@ -10,6 +10,6 @@ returns-then-fits c =
     let y = c.args.self.layout in
     let T = held c.args.self in
     let head = c.args.head in
-    let first : c.from.result ≡ T.first_rule head = c.from.ensures ∙ c.atom-word-first.ensures in
-    let sum = ap (λ k. get_or c.args.heads.now k empty) first ∙ c.requires.summed-rules (T.first_rule head) (c.requires.linked.first_rules head c.requires.above c.requires.within) in
+    let first : c.from.result ≡ T.first_rule head = c.from.ensures ∙ c.atom_word-first.ensures in
+    let sum = ap (λ k. get_or c.args.heads.now k empty) first ∙ c.requires.summed_rules (T.first_rule head) (c.requires.linked.first_rules head c.requires.above c.requires.within) in
     ap (λ o. verdict o tt) (sym (rules_pass T head y (rules_under y T head) (ap (fits_head T head) (sym sum) ∙ sym c.if-fits.ensures)))

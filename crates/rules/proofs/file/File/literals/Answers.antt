@@ -6,4 +6,4 @@ use Rattle.rules.proofs.file.File.literals.Goals as goal
 
 pub loop-i-preserved : goal.loop-i-preserved
 loop-i-preserved c =
-    built_more (literal_in (held c.args.self)) 1 c.loop-i.i (c.loop-i.i + 1) _ _ _ c.loop-i.invariant c.in-ok-push.ensures.items c.literal.ensures (omega arith)
+    built_more (literal_in (held c.args.self)) 1 c.loop-i.i (c.loop-i.i + 1) _ _ _ c.loop-i.invariant c.in_ok-push.ensures.items c.literal.ensures (omega arith)

@@ -15,8 +15,8 @@ loop-i-preserved c =
     let h : i ≤ y.rules = omega arith in
     let at : i - 1 + 1 ≡ i = omega arith in
     let on = c.requires.linked.next_rules i above h in
-    let body : c.from.result ≡ T.first_literal i = c.from.ensures ∙ c.rule-word-body.ensures ∙ ap T.first_literal at in
-    let next : c.from-in-loop-i.result ≡ T.next_rule i = c.from-in-loop-i.ensures ∙ c.rule-word-next.ensures ∙ ap T.next_rule at in
+    let body : c.from.result ≡ T.first_literal i = c.from.ensures ∙ c.rule_word-body.ensures ∙ ap T.first_literal at in
+    let next : c.from-in-loop-i.result ≡ T.next_rule i = c.from-in-loop-i.ensures ∙ c.rule_word-next.ensures ∙ ap T.next_rule at in
     let read = down_read empty (head_from y T) y.rules 2049 ss i c.loop-i.invariant (head_from_none y T) (T.next_rule i) on.0 on.1 in
     down_step empty (head_from y T) y.rules 2049 ss i c.from-in-loop-i-2.result c.join.result c.loop-i.invariant above h (omega arith) c.from-in-loop-i-2.ensures
     (c.join.ensures

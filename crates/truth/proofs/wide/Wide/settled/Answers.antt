@@ -2,10 +2,10 @@ use Rattle.std.proofs.Common.{◌^◌, ◌<◌, refl, rules}
 use Rattle.truth.proofs.Wides.{answered_not, allows_not}
 use Rattle.truth.proofs.wide.Wide.settled.Goals as goal
 
-pub invariant-of-result : goal.invariant-of-result
-invariant-of-result c =
+pub invariant_of-result : goal.invariant_of-result
+invariant_of-result c =
     let fits : c.args.mask < 2 ^ 64 = search rules in
-    (answered_not c.args.mask fits, tt)
+    record { answered = answered_not c.args.mask fits }
 
 pub returns : goal.returns
 returns c =

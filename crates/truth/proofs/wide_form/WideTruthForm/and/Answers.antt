@@ -2,11 +2,11 @@ use Rattle.truth.specs.Wide.{Place}
 use Rattle.truth.proofs.Wides.{answered_and, allows_and}
 use Rattle.truth.proofs.wide_form.WideTruthForm.and.Goals as goal
 
-pub invariant-of-result : goal.invariant-of-result
-invariant-of-result c =
+pub invariant_of-result : goal.invariant_of-result
+invariant_of-result c =
     let a = c.args.self in
     let b = c.args.other in
-    (answered_and a.yes a.no b.yes b.no a.answered b.answered, tt)
+    record { answered = answered_and a.yes a.no b.yes b.no a.answered b.answered }
 
 pub returns : goal.returns
 returns c =
