@@ -3,7 +3,7 @@ use Rattle.std.proofs.Common.{List, [], ◌∷◌, map}
 use mathlib.Core.Logic.{∥∥₁_elim}
 use std.HLevel.{Π_prop, ⊥_prop}
 use native.Mathlib.Bridge.{le_prop}
-use denote.Struct.Props.{three_prop}
+use Rattle.std.proofs.Props.{props}
 use Rattle.std.specs.List.{AllByRecursion as All}
 use Rattle.rules.specs.declared.opened.Rules.{Rules}
 use Rattle.property.specs.declared.properties.Property.{Property}
@@ -16,7 +16,7 @@ use Rattle.docket.specs.Dockets.{properties_of, trees_of}
 use Rattle.docket.specs.Truths.{Fitting}
 
 fitting_prop : (R : Rules) (p : Property) → IsProp (Fitting R p)
-fitting_prop R p = Π_prop (λ k. Π_prop (λ a. Π_prop (λ _. Π_prop (λ _. Π_prop (λ _. three_prop le_prop le_prop (Π_prop (λ _. ⊥_prop)))))))
+fitting_prop R p = Π_prop (λ k. Π_prop (λ a. Π_prop (λ _. Π_prop (λ _. Π_prop (λ _. hlevel (props, le_prop))))))
 
 all_prop : {X : Type 0} (P : X → Type 0) → ((x : X) → IsProp (P x)) → (xs : List X) → IsProp (All P xs)
 all_prop P h [] p q = λ i. tt

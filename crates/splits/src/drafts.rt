@@ -66,10 +66,10 @@ pub fn draft<J: Judge>(
     requires room { entries (inputs shape) ≤ length settings.old }
     requires stack { entries (inputs shape) ≤ length cases.old }
     requires open { Unsettled (inputs shape) settings.old }
-    ensures answer { result ≡ drafted (places area.old) (drawn (closed judge.old) (inputs shape.entry) settings.old) }
-    ensures written { area.new ≡ area_after (inputs shape.entry) (length area.old) (places area.old) (drawn (closed judge.old) (inputs shape.entry) settings.old) }
-    ensures shown { is_ok result ≡ true → settings.new ≡ settings_after settings.old (drawn (closed judge.old) (inputs shape.entry) settings.old) }
-    ensures same { closed judge.new ≡ closed judge.old }
+    ensures answer { result ≡ drafted (places area.old) (drawn (J.closed judge.old) (inputs shape.entry) settings.old) }
+    ensures written { area.new ≡ area_after (inputs shape.entry) (length area.old) (places area.old) (drawn (J.closed judge.old) (inputs shape.entry) settings.old) }
+    ensures shown { is_ok result ≡ true → settings.new ≡ settings_after settings.old (drawn (J.closed judge.old) (inputs shape.entry) settings.old) }
+    ensures same { J.closed judge.new ≡ J.closed judge.old }
 {
     clear(area);
     let room = room_of(area);

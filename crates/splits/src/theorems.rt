@@ -7,7 +7,7 @@ use crate::judge::Judge;
 
 // The walk takes exactly the files of trees that close the case.
 pub fn walk_takes_whole<J: Judge>(judge: &J) -> u8
-    ensures { WalkTakesWhole (closed judge.now) }
+    ensures { WalkTakesWhole (J.closed judge.now) }
 {
     let _ = judge;
     0
@@ -15,8 +15,8 @@ pub fn walk_takes_whole<J: Judge>(judge: &J) -> u8
 
 // A tree that closes a case covers every full setting that agrees with it, so no such setting is bad if none is in a closed case.
 pub fn tree_covers<J: Judge>(judge: &J) -> u8
-    ensures covers { TreeCovers (closed judge.now) }
-    ensures excludes { WholeExcludes (closed judge.now) }
+    ensures covers { TreeCovers (J.closed judge.now) }
+    ensures excludes { WholeExcludes (J.closed judge.now) }
 {
     let _ = judge;
     0
@@ -24,9 +24,9 @@ pub fn tree_covers<J: Judge>(judge: &J) -> u8
 
 // The plain tree closes its case, and there is one if every settled case is closed; else a settled case that is not closed is shown.
 pub fn plain_decides<J: Judge>(judge: &J) -> u8
-    ensures closes { PlainCloses (closed judge.now) }
-    ensures shows { PlainShows (closed judge.now) }
-    ensures made { PlainMade (closed judge.now) }
+    ensures closes { PlainCloses (J.closed judge.now) }
+    ensures shows { PlainShows (J.closed judge.now) }
+    ensures made { PlainMade (J.closed judge.now) }
 {
     let _ = judge;
     0
@@ -34,7 +34,7 @@ pub fn plain_decides<J: Judge>(judge: &J) -> u8
 
 // The walk takes what the draft writes.
 pub fn draft_is_taken<J: Judge>(judge: &J) -> u8
-    ensures { DraftIsTaken (closed judge.now) }
+    ensures { DraftIsTaken (J.closed judge.now) }
 {
     let _ = judge;
     0
@@ -42,7 +42,7 @@ pub fn draft_is_taken<J: Judge>(judge: &J) -> u8
 
 // The plain file never needs more records than the whole split, whose number is the sum of the products of the first branch counts.
 pub fn plain_is_small<J: Judge>(judge: &J) -> u8
-    ensures small { PlainIsSmall (closed judge.now) }
+    ensures small { PlainIsSmall (J.closed judge.now) }
     ensures counts { WholeCounts }
 {
     let _ = judge;

@@ -35,8 +35,8 @@ pub fn walk<J: Judge>(
 ) -> Result<(), WalkFault>
     requires room { entries (inputs shape) ≤ length settings.old }
     requires stack { entries (inputs shape) ≤ length cases.old }
-    ensures answer { result ≡ walked (closed judge.old) (inputs shape.entry) bytes.now settings.old }
-    ensures same { closed judge.new ≡ closed judge.old }
+    ensures answer { result ≡ walked (J.closed judge.old) (inputs shape.entry) bytes.now settings.old }
+    ensures same { J.closed judge.new ≡ J.closed judge.old }
     ensures again { is_ok result ≡ true → settings.new ≡ settings.old }
 {
     if bytes.len() < 8 || bytes.len() > 524_280 || bytes.len() % 8 != 0 {

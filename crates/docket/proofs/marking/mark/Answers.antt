@@ -16,10 +16,10 @@ outside only_yes = refl
 outside only_no = refl
 outside both = refl
 
-bits : (c : goal.After-may-be-yes) (w : Place) → bit c.may-be-yes.result w.at ≡ yes_allowed (meet (means c.judge-broken.result w) (cond (ltb w.at c.args.count) only_yes only_no))
+bits : (c : goal.After-may_be_yes) (w : Place) → bit c.may_be_yes.result w.at ≡ yes_allowed (meet (means c.judge-broken.result w) (cond (ltb w.at c.args.count) only_yes only_no))
 bits c w =
-    c.may-be-yes.ensures.exact w ∙ ap yes_allowed (c.and.ensures.exact w
-    ∙ ap (meet (means c.judge-broken.result w)) (ap (λ (m : Meaning Place). m w) c.settled.ensures.exact ∙ ap (λ (b : Bool). cond b only_yes only_no) (c.plays-below.ensures w.at)))
+    c.may_be_yes.ensures.exact w ∙ ap yes_allowed (c.and.ensures.exact w
+    ∙ ap (meet (means c.judge-broken.result w)) (ap (λ (m : Meaning Place). m w) c.settled.ensures.exact ∙ ap (λ (b : Bool). cond b only_yes only_no) (c.plays_below.ensures w.at)))
 
 pub returns : goal.returns
 returns c = record {

@@ -9,5 +9,5 @@ loop-k-preserved c =
     let m = c.loop-k.mask in
     let n = c.loop-k.k - 1 in
     let e : c.loop-k.k ≡ n + 1 = omega arith in
-    subst (λ (m : ℕ). Masked p c.args.count n m) (sym (c.with-bit-mask.ensures ∙ ap (λ b. 2 * m + flag (eqb b c.args.byte)) c.from.ensures))
+    subst (λ (m : ℕ). Masked p c.args.count n m) (sym (c.with_bit-mask.ensures ∙ ap (λ b. 2 * m + flag (eqb b c.args.byte)) c.from.ensures))
     (masked_goes p c.args.count n m (omega arith) (subst (λ (j : ℕ). Masked p c.args.count j m) e c.loop-k.invariant))

@@ -3,11 +3,19 @@ use Rattle.std.proofs.lemmas.Result.{err_from_is_err_and}
 use Rattle.rules.proofs.Takings.{taken_passed}
 use Rattle.docket.proofs.opening.open.Goals as goal
 
-pub returns-in-err-strata : goal.returns-in-err-strata
-returns-in-err-strata c =
-    let p = err_from_is_err_and c.from-residual-in-err-strata.result c.from-residual-in-err-strata.ensures.1 in
-    rw (p.1, p.2) (record { opens = (taken_passed _ c.in-ok-rules.ensures.0, c.in-ok-rules.ensures.0); empty = tt })
+pub returns-in_err-strata : goal.returns-in_err-strata
+returns-in_err-strata c =
+    let p = err_from_is_err_and c.from_residual-in_err-strata.result c.from_residual-in_err-strata.ensures.1 in
+    rw (p.1, p.2) (record { opens = (taken_passed _ c.in_ok-rules.ensures.0, c.in_ok-rules.ensures.0); empty = tt })
 
-pub invariant-of-result : goal.invariant-of-result
-invariant-of-result c =
-    (c.in-ok-strata.ensures, (c.empty-places-properties.ensures, (refl, (lit≤ tt, (∣ refl ∣₁, (∣ tt ∣₁, (∣ tt ∣₁, tt)))))))
+pub invariant_of-result : goal.invariant_of-result
+invariant_of-result c =
+    record {
+      sorted = c.in_ok-strata.ensures;
+      places = c.empty_places-properties.ensures;
+      pages = refl;
+      few = lit≤ tt;
+      said = ∣ refl ∣₁;
+      fitting = ∣ tt ∣₁;
+      holding = ∣ tt ∣₁;
+    }

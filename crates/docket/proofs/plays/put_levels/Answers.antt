@@ -16,14 +16,14 @@ pub loop-level-preserved : goal.loop-level-preserved
 loop-level-preserved c =
     let R = c.args.rules.now in
     let n = c.loop-level.level in
-    let ys = c.put-level.new.values in (
+    let ys = c.put_level.new.values in (
       (λ j k d h l. elim (cases_eq j n) [
-        | inl e ↦ ap (λ i. means (get_or ys (place i (does_at R k)) d)) e ∙ c.put-level.ensures.moves k d l ∙ ap (λ i. doing R c.args.plays.now c.args.count i k) (sym e)
+        | inl e ↦ ap (λ i. means (get_or ys (place i (does_at R k)) d)) e ∙ c.put_level.ensures.moves k d l ∙ ap (λ i. doing R c.args.plays.now c.args.count i k) (sym e)
         | inr e ↦
-            ap means (c.put-level.ensures.kept (place j (does_at R k)) d (λ i m. rows_apart j n (does_at R k) (does_at R i) (omega (arith, few_atoms R, does_small R k l)) (omega (arith, few_atoms R, does_small R i m)) e))
+            ap means (c.put_level.ensures.kept (place j (does_at R k)) d (λ i m. rows_apart j n (does_at R k) (does_at R i) (omega (arith, few_atoms R, does_small R k l)) (omega (arith, few_atoms R, does_small R i m)) e))
             ∙ c.loop-level.invariant.0 j k d (omega arith) l
       ]),
-      λ i d out. c.put-level.ensures.kept i d (out n (omega arith)) ∙ c.loop-level.invariant.1 i d (λ j l. out j (omega arith)),
+      λ i d out. c.put_level.ensures.kept i d (out n (omega arith)) ∙ c.loop-level.invariant.1 i d (λ j l. out j (omega arith)),
     )
 
 pub returns : goal.returns

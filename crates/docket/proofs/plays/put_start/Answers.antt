@@ -20,7 +20,7 @@ loop-f-preserved c =
     let e = ap (λ y. y.fluents) c.layout.ensures in
     let h : f < length c.loop-f.values = omega (arith, c.loop-f.auto.values) in
     put_goes means (starting bs n) (λ f. f) c.args.values.now f c.loop-f.values c.settled.result h (λ g l q. omega arith)
-    (c.settled.ensures.exact ∙ mask_means c.plays-with.result (λ k. ltb k n && byte_is bs f 1 k) c.plays-with.ensures) c.loop-f.invariant
+    (c.settled.ensures.exact ∙ mask_means c.plays_with.result (λ k. ltb k n && byte_is bs f 1 k) c.plays_with.ensures) c.loop-f.invariant
 
 pub returns : goal.returns
 returns c =

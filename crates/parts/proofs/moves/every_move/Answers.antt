@@ -23,7 +23,7 @@ loop-choice-preserved g c L is =
     let i = c.loop-choice.choice in
     let m : c.from-choice-end.result ≡ choices R = c.from-choice-end.ensures ∙ ap (λ y. y.moves) c.layout.ensures in
     let h : i < choices R = omega arith in
-    ap (λ v. each_move o R L v c.args.level (range_with_len (i + 1) (choices R - (i + 1)))) (c.and-all.ensures ∙ ap (t.conj (t.means c.loop-choice.all)) (c.undone-or-legal.ensures L is))
+    ap (λ v. each_move o R L v c.args.level (range_with_len (i + 1) (choices R - (i + 1)))) (c.and-all.ensures ∙ ap (t.conj (t.means c.loop-choice.all)) (c.undone_or_legal.ensures L is))
     ∙ sym (ap (each_move o R L (t.means c.loop-choice.all) c.args.level) (counting_goes i (choices R) h)) ∙ c.loop-choice.invariant L is
 
 pub returns : goal.returns

@@ -26,7 +26,7 @@ loop-level-preserved g c L is =
     let here = is k (omega arith) in
     let s : H - k ≡ suc (H - (k + 1)) = omega arith in
     let e : t.means c.or-over.result ≡ o.or' u (ended o R L k) = c.or-over.ensures ∙ ap (t.disj u) (c.ended.ensures L here) in
-    let f = c.and-all.ensures ∙ ap (t.conj v) (c.or.ensures ∙ ap₂ t.disj e (c.every-move.ensures L here)) in
+    let f = c.and-all.ensures ∙ ap (t.conj v) (c.or.ensures ∙ ap₂ t.disj e (c.every_move.ensures L here)) in
     ap₂ (λ a b. legality_from o R L a b (k + 1) (H - (k + 1))) f e
     ∙ sym (ap (legality_from o R L v u k) s) ∙ c.loop-level.invariant L is
 

@@ -17,5 +17,5 @@ returns g c L is =
     c.or-2.ensures
     ∙ ap₂ t.disj
     (c.or.ensures ∙ ap₂ t.disj (fun_ext c.no.ensures)
-    (c.not-undone.ensures ∙ ap t.neg (c.value-at.ensures L is ∙ ap (λ n. look o (L c.args.level) (2 * n + k)) f)))
-    (c.value-at-2.ensures L is ∙ ap₂ (λ n m. look o (L c.args.level) (2 * n + m + k)) f₂ m)
+    (c.not-undone.ensures ∙ ap t.neg (c.value_at.ensures L is ∙ ap (λ n. look o (L c.args.level) (2 * n + k)) f)))
+    (c.value_at-2.ensures L is ∙ ap₂ (λ n m. look o (L c.args.level) (2 * n + m + k)) f₂ m)

@@ -10,8 +10,8 @@ use Rattle.parts.proofs.Tables.{all_at, rest_value, rest_taken, rest_passed, res
 use Rattle.parts.proofs.part_value.and_assumed.Goals as goal
 use Rattle.parts.proofs.part_value.and_assumed.Goals.{then-assumes, else-assumes}
 
-pub property-value-requires : goal.property-value-requires
-property-value-requires g c =
+pub property_value-requires : goal.property_value-requires
+property_value-requires g c =
     let R = c.args.rules.now in
     let q = c.index-docket-i.result in
     let h : c.loop-i.i < length c.args.docket.now = omega arith in
@@ -39,13 +39,13 @@ loop-i-preserved g c =
     let asked : test (tree_of q) ≡ c.assumes.result = ap (may_assume c.args.degree) (sym c.degree.ensures.tree) ∙ sym c.assumes.ensures in
     elim c.if-assumes.branch [
       | then-assumes w ↦ (
-        ap (λ G. G.values.ghost_name) w.grid-is ∙ w.property-value.ensures.lender ∙ inv.0,
-        ap (λ G. length G.values.now) w.grid-is ∙ w.property-value.ensures.len ∙ inv.1,
-        (λ j d out. ap (λ G. get_or G.values.now j d) w.grid-is ∙ w.property-value.ensures.kept j d out ∙ inv.2 j d out),
+        ap (λ G. G.values.ghost_name) w.grid-is ∙ w.property_value.ensures.lender ∙ inv.0,
+        ap (λ G. length G.values.now) w.grid-is ∙ w.property_value.ensures.len ∙ inv.1,
+        (λ j d out. ap (λ G. get_or G.values.now j d) w.grid-is ∙ w.property_value.ensures.kept j d out ∙ inv.2 j d out),
         λ L levels.
             let here = levels_kept t.means R L was xs inv.1 c.requires.room inv.2 H c.requires.horizon levels in
             ap (λ a. rest_value o R L test docket H (t.means a) (i + 1)) w.all-is
-            ∙ ap (λ u. rest_value o R L test docket H u (i + 1)) (w.and-all.ensures ∙ ap (t.conj v) (w.property-value.ensures.value L here))
+            ∙ ap (λ u. rest_value o R L test docket H u (i + 1)) (w.and-all.ensures ∙ ap (t.conj v) (w.property_value.ensures.value L here))
             ∙ rest_taken o R L test docket H i q h c.index-docket-i.is v (asked ∙ w.if-assumes.true) ∙ inv.3 L levels,
       )
       | else-assumes w ↦ (

@@ -12,7 +12,7 @@ returns g c =
     let o = meanings t.neg t.conj t.disj in
     let R = c.args.rules.now in
     let p = c.args.property.now in
-    let e = c.property-value-holds.ensures in
+    let e = c.property_value-holds.ensures in
     let n : c.from-horizon.result ≡ degree (tree_of p) = c.from-horizon.ensures ∙ c.degree.ensures.tree in
     record {
       value = λ L levels.

@@ -18,7 +18,7 @@ pub returns : goal.returns
 returns g c =
     let R = indexed_rules c.args.rules in
     let e = c.play.ensures in
-    let f = c.part-value.ensures in
+    let f = c.part_value.ensures in
     let n : c.from-horizon.result ≡ horizon_of c.args.part (degree (tree_of c.args.property.now)) =
     c.from-horizon.ensures ∙ c.horizon.ensures ∙ ap (horizon_of c.args.part) c.degree.ensures.tree in
     let low : c.from-horizon.result < 5 =

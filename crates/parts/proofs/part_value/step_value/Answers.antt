@@ -34,7 +34,7 @@ returns g c =
     let was = c.args.grid.now.values.now in
     let ys = c.fill.new.grid.values.now in
     let f = c.fill.ensures in
-    let a = c.and-assumed.ensures in
+    let a = c.and_assumed.ensures in
     let docket = c.args.docket.now in
     let d = degree (tree_of p) in
     let h = c.from-horizon.result in
@@ -55,8 +55,8 @@ returns g c =
           c.entry-holds.ensures ∙ filled 0 (omega arith) (omega arith) 1 (omega arith) some ∙ ap₂ (λ rs k. value o R L (property_of rs) 0 k) e z in
           let later : t.means c.entry.result ≡ value o R L (tree_of p) 1 d =
           c.entry.ensures ∙ filled 1 (omega arith) (omega arith) 1 (omega arith) some ∙ ap₂ (λ rs k. value o R L (property_of rs) 1 k) e l in
-          let follows : t.means c.ended-or-follows.result ≡ value o R L (following (tree_of p)) 0 (d + 1) =
-          c.ended-or-follows.ensures L (here 0 (omega arith)) ∙ ap (ended_or o R L 0) later ∙ sym (ap (value o R L (following (tree_of p)) 0) s) in
+          let follows : t.means c.ended_or-follows.result ≡ value o R L (following (tree_of p)) 0 (d + 1) =
+          c.ended_or-follows.ensures L (here 0 (omega arith)) ∙ ap (ended_or o R L 0) later ∙ sym (ap (value o R L (following (tree_of p)) 0) s) in
           let first = c.and-first.ensures
           ∙ ap₂ t.conj (c.and.ensures ∙ ap₂ t.conj (fun_ext c.yes.ensures) (c.legality-legal.ensures L lower ∙ ap (legality o R L) n₁)) holds in
           c.and-2.ensures

@@ -18,7 +18,7 @@ loop-i-preserved g c =
     let i = c.loop-i.i in
     let k = c.args.level in
     let left = c.args.left in
-    let v = c.record-value-v.result in
+    let v = c.record_value-v.result in
     let inv = c.loop-i.invariant in
     let room : Spacious xs = omega (arith, c.requires.room, inv.1) in
     let m : i - 1 + 1 ≡ i = omega arith in
@@ -35,7 +35,7 @@ loop-i-preserved g c =
           let next : 0 < left → FilledBehind o t.means R rs L xs (k + 1) (left - 1) 0 =
           λ p. other_level o t.means R rs L c.requires.few was xs inv.1 c.requires.room k (k + 1) (left - 1) 0 (omega (arith, c.requires.level)) (λ e. omega arith) inv.2 (later p) in
           enter_filled xs ys k i v above within is o t.means R rs L left c.requires.few h room
-          (c.record-value-v.ensures L here next (subst (λ n. FilledBehind o t.means R rs L xs k left n) (sym m) filled)
+          (c.record_value-v.ensures L here next (subst (λ n. FilledBehind o t.means R rs L xs k left n) (sym m) filled)
           ∙ ap (λ n. value o R L (reading_at rs n).whole k left) m)
           filled,
     )

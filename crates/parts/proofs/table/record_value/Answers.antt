@@ -11,16 +11,16 @@ use Rattle.property.proofs.Standing.{whole_by}
 use Rattle.parts.specs.Values.{at, ended_or, value}
 use Rattle.parts.proofs.table.record_value.Goals as goal
 
-pub overflow-sub-from-in-Atom : goal.overflow-sub-from-in-Atom
-overflow-sub-from-in-Atom g c =
+pub overflow_sub-from-in-Atom : goal.overflow_sub-from-in-Atom
+overflow_sub-from-in-Atom g c =
     let rs = c.args.records.now in
     let a = c.in-Atom.atom in
     let e : formula_at rs c.args.number ≡ Atom a = ap (λ n. (get_or rs (n - 1) unused).formula) (sym c.from.ensures) ∙ c.in-Atom.is in
     let s = c.requires.fits c.args.number a c.requires.above c.requires.within e in
     omega (arith, s.0, c.from-in-Atom.ensures)
 
-pub value-at-requires : goal.value-at-requires
-value-at-requires g c =
+pub value_at-requires : goal.value_at-requires
+value_at-requires g c =
     let rs = c.args.records.now in
     let a = c.in-Atom.atom in
     let e : formula_at rs c.args.number ≡ Atom a = ap (λ n. (get_or rs (n - 1) unused).formula) (sym c.from.ensures) ∙ c.in-Atom.is in
@@ -39,7 +39,7 @@ returns-in-Atom g c L is later filled =
     let rs = c.args.records.now in
     let a = c.in-Atom.atom in
     let e : formula_at rs c.args.number ≡ Atom a = ap (λ n. (get_or rs (n - 1) unused).formula) (sym c.from.ensures) ∙ c.in-Atom.is in
-    c.value-at.ensures L is ∙ ap (λ n. at o R L c.args.level (n - 1)) c.from-in-Atom.ensures
+    c.value_at.ensures L is ∙ ap (λ n. at o R L c.args.level (n - 1)) c.from-in-Atom.ensures
     ∙ sym (ap (λ q. value o R L q c.args.level c.args.left) (whole_by rs c.requires.linked c.args.number (Atom a) c.requires.above c.requires.within e))
 
 pub returns-in-Not : goal.returns-in-Not
@@ -63,7 +63,7 @@ returns-in-All g c L is later filled =
     let i = c.in-All.first in
     let e : formula_at rs c.args.number ≡ All i = ap (λ n. (get_or rs (n - 1) unused).formula) (sym c.from.ensures) ∙ c.in-All.is in
     let l = formula_leads rs c.requires.linked c.args.number (All i) c.requires.above c.requires.within e in
-    c.all-entries.ensures R L c.args.left c.args.number l.0 filled
+    c.all_entries.ensures R L c.args.left c.args.number l.0 filled
     ∙ sym (ap (λ q. value o R L q c.args.level c.args.left) (whole_by rs c.requires.linked c.args.number (All i) c.requires.above c.requires.within e))
 
 pub returns-then-left-eq0 : goal.returns-then-left-eq0
@@ -89,6 +89,6 @@ returns-else-left-eq0 g c L is later filled =
     let l = some_operand rs c.requires.linked c.args.number (Following i) c.requires.above c.requires.within e tt in
     let some : 0 < c.args.left = omega arith in
     let s : c.args.left ≡ suc (c.args.left - 1) = omega arith in
-    c.ended-or.ensures L is ∙ ap (ended_or o R L c.args.level) (c.entry-else-left-eq0.ensures ∙ later some i (omega (arith, l.0)) l.1)
+    c.ended_or.ensures L is ∙ ap (ended_or o R L c.args.level) (c.entry-else-left-eq0.ensures ∙ later some i (omega (arith, l.0)) l.1)
     ∙ sym (ap (λ q. value o R L q c.args.level c.args.left) (whole_by rs c.requires.linked c.args.number (Following i) c.requires.above c.requires.within e)
     ∙ ap (value o R L (following (reading_at rs i).whole) c.args.level) s)
