@@ -1,10 +1,9 @@
 -- The moves of all roles, counted by role and then by move.
-use Rattle.std.proofs.Common.{◌≡◌, ℕ, suc, ◌+◌, ◌-◌, ◌<◌, ◌≤◌, Bool, true, false, cond, eqb, ltb, List, [], ◌∷◌, length, get_or, drop, sym, refl, ap, ◌∙◌, subst, ap₂, inl, inr, arith}
+use Rattle.std.proofs.Common.{◌≡◌, ℕ, suc, ◌+◌, ◌-◌, ◌<◌, ◌≤◌, cond, eqb, ltb, List, [], ◌∷◌, length, get_or, drop, sym, ap, ◌∙◌, inl, inr, arith}
 use Rattle.std.proofs.lemmas.List.{drop_more, drop_all}
 use Rattle.std.proofs.lemmas.Bool.{cases_eq, cases_lt, lt-ltb, le-ltb, eq-eqb, ne_eqb}
 use Rattle.rules.specs.Tables.{total}
 use Rattle.evaluate.specs.Showing.{chosen}
-use Rattle.docket.specs.declared.choices.Choice.{Choice}
 use Rattle.docket.specs.Choices.{choice_from}
 
 pub choice_step : (ns : List ℕ) (i c : ℕ) → i < length ns

@@ -4,7 +4,7 @@ use Rattle.std.proofs.lemmas.List.{get_or-set_same, get_or-set_other}
 use Rattle.std.proofs.lemmas.Bool.{cases_eq, leb-true, and_parts}
 use Rattle.truth.specs.Bit.{bit}
 use Rattle.truth.specs.Forms.{only_yes, only_no}
-use Rattle.truth.specs.Wide.{Place, by_mask}
+use Rattle.truth.specs.Wide.{by_mask}
 use Rattle.rules.specs.declared.opened.Rules.{Rules}
 use Rattle.rules.specs.Opens.{atoms_of, moves_of}
 use Rattle.rules.specs.Tables.{total}

@@ -1,5 +1,5 @@
 -- Kleene's operations keep the laws, and settled answers.
-use Rattle.std.proofs.Common.{◌≡◌, Bool, true, false, not, ◌&&◌, ◌||◌, sym, refl, subst}
+use Rattle.std.proofs.Common.{◌≡◌, Bool, true, false, not, ◌&&◌, ◌||◌, sym, subst}
 use Rattle.truth.specs.Forms.{Answers, only_yes, only_no, both, Allows, Settled, Laws}
 use Rattle.truth.specs.Kleene.{flip, meet, join, neg, conj, disj}
 use Rattle.evaluate.specs.Claims.{just}

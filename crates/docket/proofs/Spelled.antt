@@ -1,5 +1,5 @@
 -- Bytes that pass the check spell one play at each place.
-use Rattle.std.proofs.Common.{◌≡◌, ℕ, zero, suc, ◌+◌, ◌-◌, ◌*◌, ◌/◌, ◌%◌, ◌<◌, ◌≤◌, Bool, true, false, cond, ◌&&◌, eqb, ltb, leb, ◌⊎◌, List, [], ◌∷◌, ◌++◌, map, length, get_or, take, drop, replicate, None, sym, refl, ap, ◌∙◌, subst, ap₂, inl, inr, mod-eq_of_lt, mul-le-mul, mul-suc, arith}
+use Rattle.std.proofs.Common.{◌≡◌, ℕ, zero, suc, ◌+◌, ◌-◌, ◌*◌, ◌/◌, ◌%◌, ◌<◌, ◌≤◌, true, false, eqb, leb, List, [], ◌∷◌, ◌++◌, map, length, get_or, take, drop, replicate, None, sym, refl, ap, ◌∙◌, subst, ap₂, inl, inr, mod-eq_of_lt, mul-le-mul, mul-suc, arith}
 use native.Mathlib.Bridge.{le_prop}
 use native.Mathlib.Nat.{add-mod_left}
 use Rattle.std.specs.List.{range_with_len}
@@ -19,7 +19,7 @@ use Rattle.play.specs.declared.part.Part.{Part}
 use Rattle.play.specs.declared.part.Part.TheVariants.{Base, Step}
 use Rattle.play.specs.Bytes.{start_fits, byte_fits, byte_fault, first_fault}
 use Rattle.play.specs.Parts.{Play}
-use Rattle.docket.specs.Claims.{SpellsOne, PlaysAreSpelled}
+use Rattle.docket.specs.Claims.{PlaysAreSpelled}
 use Rattle.docket.specs.Plays.{flag, play_byte, all_numbers, written, padded, Spells}
 use Rattle.docket.proofs.Inputs.{few_fluents, few_roles, roles_are}
 use Rattle.docket.proofs.Spelling.{numbers_length, all_length, spelled_start, spelled_rest}

@@ -1,5 +1,5 @@
 -- The bytes of a play, and what the play they spell does.
-use Rattle.std.proofs.Common.{◌≡◌, ℕ, zero, suc, ◌+◌, ◌-◌, ◌*◌, ◌<◌, ◌≤◌, Bool, true, false, eqb, List, [], ◌∷◌, ◌++◌, map, length, get_or, take, drop, replicate, sym, refl, ap, ◌∙◌, ap₂, mul-le-mul, mul-suc, arith}
+use Rattle.std.proofs.Common.{◌≡◌, ℕ, zero, suc, ◌+◌, ◌-◌, ◌*◌, ◌<◌, ◌≤◌, Bool, true, false, eqb, List, [], ◌∷◌, ◌++◌, map, length, get_or, drop, replicate, sym, refl, ap, ◌∙◌, ap₂, mul-le-mul, mul-suc, arith}
 use Rattle.std.proofs.lemmas.List.{length-append, length-map, get_or_append_left, get_or-append-add, get_or-take, get_or-drop, get_or-map}
 use Rattle.rules.specs.declared.opened.Rules.{Rules}
 use Rattle.rules.specs.Opens.{moves_of}
@@ -11,7 +11,7 @@ use Rattle.play.specs.Parts.{Play}
 use Rattle.parts.specs.Plays.{made}
 use Rattle.docket.specs.Choices.{choice_of}
 use Rattle.docket.specs.Inputs.{move_byte}
-use Rattle.docket.specs.Plays.{flag, play_byte, byte_is, all_numbers, written, padded, Spells}
+use Rattle.docket.specs.Plays.{flag, play_byte, byte_is, all_numbers, written, Spells}
 use Rattle.docket.proofs.Choosing.{chosen_number, role_within}
 use Rattle.docket.proofs.Inputs.{few_fluents, few_roles, roles_are, choices_are}
 

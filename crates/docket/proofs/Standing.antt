@@ -1,7 +1,7 @@
 -- What stands on a docket fits its rules.
 use Rattle.std.proofs.Common.{List, [], ◌∷◌, map}
 use mathlib.Core.Logic.{∥∥₁_elim}
-use std.HLevel.{Π_prop, ⊥_prop}
+use std.HLevel.{Π_prop}
 use native.Mathlib.Bridge.{le_prop}
 use Rattle.std.proofs.Props.{props}
 use Rattle.std.specs.List.{AllByRecursion as All}

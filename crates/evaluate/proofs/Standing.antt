@@ -1,5 +1,5 @@
 -- What the laws of a form give of levels: soundness, settledness, exactness; and atoms that support only themselves.
-use Rattle.std.proofs.Common.{◌≡◌, ℕ, zero, suc, ◌-◌, ◌*◌, ◌<◌, ◌≤◌, Bool, true, false, not, ◌&&◌, eqb, List, [], ◌∷◌, length, sym, refl, ap, ◌∙◌, subst, inl, inr, arith}
+use Rattle.std.proofs.Common.{◌≡◌, ℕ, zero, suc, ◌-◌, ◌*◌, ◌<◌, ◌≤◌, Bool, true, false, ◌&&◌, eqb, List, [], ◌∷◌, length, sym, refl, ap, ◌∙◌, subst, inl, inr, arith}
 use Rattle.std.proofs.lemmas.Bool.{eq-eqb, cases_eq}
 use Rattle.truth.specs.Forms.{Answers, only_yes, only_no, both, Meaning, Allows, Settled, SettledEverywhere, Laws}
 use Rattle.rules.specs.declared.opened.Rules.{Rules}

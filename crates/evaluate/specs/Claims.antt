@@ -7,7 +7,7 @@ use Rattle.evaluate.specs.Program.{Program, program_of, Stratified, ShutOff}
 use Rattle.evaluate.specs.Model.{Least, StandardModel}
 use Rattle.evaluate.specs.Evaluate.{Ops, bool_ops, look, evaluated}
 use Rattle.evaluate.specs.Meanings.{kleene_each}
-use Rattle.evaluate.specs.Positions.{fluents, choices, does_at, legal_at, terminal_at, still, Position, Joint, does, input, ReadsStandardModel, ModelOf}
+use Rattle.evaluate.specs.Positions.{fluents, choices, does_at, legal_at, terminal_at, still, Position, Joint, input, ReadsStandardModel, ModelOf}
 use Rattle.evaluate.specs.Levels.{level_of, model, game}
 
 -- The program of a rule file that was taken: it is stratified, fluents and does atoms are given and have no rules, legal

@@ -1,11 +1,10 @@
 -- A relation that the operations keep, the value of a part keeps; it reads still atoms, and does atoms below the horizon.
-use Rattle.std.proofs.Common.{◌≡◌, ℕ, zero, suc, ◌+◌, ◌-◌, ◌<◌, ◌≤◌, Bool, true, false, cond, ltb, List, [], ◌∷◌, length, filter, sym, refl, ap, ◌∙◌, subst₂, inl, inr, arith}
+use Rattle.std.proofs.Common.{◌≡◌, ℕ, zero, suc, ◌+◌, ◌-◌, ◌<◌, ◌≤◌, Bool, true, false, cond, ltb, List, [], ◌∷◌, filter, sym, refl, ap, ◌∙◌, subst₂, inl, inr, arith}
 use Rattle.std.specs.List.{range_with_len, AllByRecursion as All}
 use Rattle.std.proofs.lemmas.Bool.{cases_lt, cond-true, cond-false, lt-ltb, le-ltb}
 use Rattle.rules.specs.declared.opened.Rules.{Rules}
 use Rattle.rules.specs.declared.records.Mark.{Mark}
 use Rattle.rules.specs.declared.records.Mark.TheVariants.{Still, Dependent, Initial}
-use Rattle.rules.specs.Opens.{atoms_of}
 use Rattle.evaluate.specs.Evaluate.{Ops, look}
 use Rattle.evaluate.specs.Levels.{level_of, from_first, at_level}
 use Rattle.evaluate.specs.Positions.{fluents, choices, next_at, does_at, legal_at, terminal_at, still}

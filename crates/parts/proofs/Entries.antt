@@ -10,7 +10,7 @@ use Rattle.evaluate.proofs.Chains.{few_atoms}
 use Rattle.evaluate.proofs.Rows.{row_same}
 use Rattle.property.specs.declared.records.Record.{Record}
 use Rattle.property.specs.Trees.{reading_at}
-use Rattle.parts.specs.Tables.{entry_at, table_start, table_end, Spacious, KeptBesideTable, KeptBesideLevel, LevelIn, LevelsIn, FilledBehind}
+use Rattle.parts.specs.Tables.{entry_at, table_start, Spacious, KeptBesideTable, KeptBesideLevel, LevelIn, LevelsIn, FilledBehind}
 use Rattle.parts.specs.Values.{value}
 
 -- a place that stays, stays in what is meant

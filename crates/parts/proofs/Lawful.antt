@@ -1,5 +1,5 @@
 -- What the laws of a form give of the value of a part.
-use Rattle.std.proofs.Common.{◌≡◌, ℕ, Bool, true, not, ◌&&◌, ◌||◌, List, sym, refl, ap, ◌∙◌, subst}
+use Rattle.std.proofs.Common.{◌≡◌, Bool, true, refl, ap, subst}
 use Rattle.truth.specs.Forms.{Answers, only_no, Meaning, Allows, SettledEverywhere, Laws}
 use Rattle.evaluate.specs.Evaluate.{Ops, bool_ops}
 use Rattle.evaluate.specs.Levels.{at_level}

@@ -1,5 +1,5 @@
 -- Over yes and no, the value of a part on the levels of a play is the play's mark.
-use Rattle.std.proofs.Common.{◌≡◌, ℕ, zero, suc, ◌+◌, ◌-◌, ◌<◌, ◌≤◌, Bool, true, false, cond, not, ◌&&◌, ◌||◌, eqb, ltb, leb, ◌↔◌, List, [], ◌∷◌, length, get_or, sym, refl, ap, ◌∙◌, subst, ap₂, inl, inr, add-one, arith}
+use Rattle.std.proofs.Common.{◌≡◌, ℕ, zero, suc, ◌+◌, ◌-◌, ◌<◌, ◌≤◌, Bool, true, false, cond, not, ◌&&◌, ◌||◌, eqb, ltb, leb, List, [], ◌∷◌, length, sym, refl, ap, ◌∙◌, subst, ap₂, inl, inr, add-one, arith}
 use Rattle.std.specs.List.{range_with_len, AllByRecursion as All}
 use Rattle.std.proofs.lemmas.Bool.{cases_lt, cases_eq, both_ways, and_parts, and_from, cond-true, cond-false, lt-ltb, le-ltb, eq-eqb, eqb-true, leb-true}
 use Rattle.rules.specs.declared.opened.Rules.{Rules}
@@ -7,23 +7,23 @@ use Rattle.rules.specs.Opens.{atoms_of, moves_of}
 use Rattle.rules.specs.Tables.{total}
 use Rattle.rules.specs.Typed.{Moving}
 use Rattle.evaluate.specs.Evaluate.{bool_ops, look}
-use Rattle.evaluate.specs.Levels.{level_of, from_first, at_level}
-use Rattle.evaluate.specs.Positions.{fluents, choices, next_at, does_at, legal_at, terminal_at, still, Position, holds_in, Joint, done, pick, does, legal_for, Game, ReadOff, ReadsStandardModel}
+use Rattle.evaluate.specs.Levels.{level_of, from_first}
+use Rattle.evaluate.specs.Positions.{choices, next_at, does_at, legal_at, terminal_at, still, Position, holds_in, Joint, done, pick, does, legal_for, Game, ReadOff, ReadsStandardModel}
 use Rattle.evaluate.proofs.Chains.{atoms_are}
 use Rattle.evaluate.proofs.Fitting.{rules_are_proper, enough}
-use Rattle.evaluate.proofs.Games.{level_still, legal_same}
+use Rattle.evaluate.proofs.Games.{level_still}
 use Rattle.evaluate.proofs.Givens.{level_same, input_does}
 use Rattle.evaluate.proofs.Standing.{level_standard}
 use Rattle.property.specs.Trees.{Property, Properties, atom, isn't, all, following, none, more, degree}
 use Rattle.play.specs.declared.part.Part.{Part}
 use Rattle.play.specs.declared.part.Part.TheVariants.{Base, Step}
 use Rattle.play.specs.Truth.{satisfied, all_satisfied}
-use Rattle.play.specs.Parts.{horizon_of, assumed, may_assume, Play, run, run_legal}
-use Rattle.play.specs.Marks.{each_satisfied, shown, marked}
+use Rattle.play.specs.Parts.{assumed, may_assume, Play, run, run_legal}
+use Rattle.play.specs.Marks.{each_satisfied, shown}
 use Rattle.play.proofs.Marks.{marks_are_right}
 use Rattle.parts.specs.Claims.{ValuesAreMarks, ValuesShowBreaks}
 use Rattle.parts.specs.Plays.{made, played, by_number, StillIn, EachStillIn}
-use Rattle.parts.specs.Values.{at, ended, value, all_value, each_move, every_move, legality_from, each_value, broken, part_value}
+use Rattle.parts.specs.Values.{at, value, all_value, each_move, every_move, legality_from, each_value, broken}
 use Rattle.parts.proofs.Alike.{still_place, all_kept}
 
 both_up : (b c : Bool) → (b ≡ true → c ≡ true) → (c ≡ true → b ≡ true) → b ≡ c

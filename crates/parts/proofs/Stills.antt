@@ -1,5 +1,5 @@
 -- The property of records that name only still atoms.
-use Rattle.std.proofs.Common.{◌≡◌, ℕ, zero, suc, ◌+◌, ◌-◌, ◌<◌, ◌≤◌, List, [], ◌∷◌, length, get_or, refl, arith}
+use Rattle.std.proofs.Common.{◌≡◌, ℕ, zero, suc, ◌+◌, ◌-◌, ◌<◌, List, [], ◌∷◌, length, get_or, refl, arith}
 use Rattle.rules.specs.declared.opened.Rules.{Rules}
 use Rattle.property.specs.declared.records.Formula.{Formula}
 use Rattle.property.specs.declared.records.Formula.TheVariants.{Atom, Not, All, Following}

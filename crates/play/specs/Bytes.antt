@@ -1,5 +1,5 @@
 -- Plays as bytes: each is 96 bytes, the start as one byte 0 or 1 for each fluent, then move numbers from 1 by level and role, then zeros.
-use Rattle.std.specs.Prelude.{ℕ, ◌+◌, ◌-◌, ◌*◌, ◌/◌, ◌%◌, Bool, cond, ◌&&◌, List, [], ◌∷◌, length, Option, ◌==◌, nat_le, nat_lt, slice_index, slice_index_or}
+use Rattle.std.specs.Prelude.{ℕ, ◌+◌, ◌-◌, ◌*◌, ◌%◌, Bool, cond, ◌&&◌, List, [], ◌∷◌, length, Option, ◌==◌, nat_le, nat_lt, slice_index, slice_index_or}
 use Rattle.std.specs.List.{range_with_len}
 use Rattle.rules.specs.declared.opened.Rules.{Rules}
 use Rattle.rules.specs.declared.records.Mark.{Mark}

@@ -1,5 +1,4 @@
 -- The number, layer and place of each fault of plays. Layer 8 is the plays.
-use Rattle.std.specs.Prelude.{ℕ}
 use Rattle.rules.specs.declared.faults.Report.{Report}
 use Rattle.play.specs.declared.faults.Fault.{Fault}
 use Rattle.play.specs.declared.faults.Fault.TheVariants.{Length, Byte}

@@ -1,5 +1,5 @@
 -- Tables that agree at every record have the same fit; and the tables of typed records agree with the words that they came from.
-use Rattle.std.proofs.Common.{◌≡◌, ℕ, zero, suc, ◌+◌, ◌-◌, ◌<◌, ◌≤◌, true, eqb, ◌⊎◌, List, map, get_or, sym, refl, ap, ◌∙◌, subst, inl, inr, arith}
+use Rattle.std.proofs.Common.{◌≡◌, ℕ, zero, suc, ◌-◌, ◌<◌, ◌≤◌, true, eqb, map, get_or, sym, refl, ap, ◌∙◌, subst, inl, inr, arith}
 use Rattle.std.specs.List.{range_with_len}
 use Rattle.std.proofs.lemmas.List.FromFn.{get_or-map-range_with_len}
 use Rattle.std.proofs.lemmas.Bool.{eqb-true, leb-true, or_cases}
@@ -10,7 +10,7 @@ use Rattle.rules.specs.Chains.{On, here, further, Later}
 use Rattle.rules.specs.First.{stratum_fits, mark_fits, first_rule_fits, next_fits, name_fits, literal_fits}
 use Rattle.rules.specs.Kinds.{kind_of}
 use Rattle.rules.specs.Tables.{Tables}
-use Rattle.rules.specs.Taken.{AtomWords, RuleWords, LiteralWords, RecordsFit}
+use Rattle.rules.specs.Taken.{RecordsFit}
 use Rattle.rules.specs.Typed.{mark_word, sign_word, mark_of, sign_of, atom_in, rule_in, literal_in, no_atom, no_rule, no_literal, tables_from}
 use Rattle.rules.proofs.Passed.{words_linked, on_within}
 

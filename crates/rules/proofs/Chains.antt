@@ -1,5 +1,5 @@
 -- Chains of records, a record at a time.
-use Rattle.std.proofs.Common.{◌≡◌, ℕ, zero, suc, ◌+◌, ◌<◌, ◌≤◌, List, [], ◌∷◌, sym, refl, ap, ◌∙◌, arith}
+use Rattle.std.proofs.Common.{◌≡◌, ℕ, zero, suc, ◌+◌, ◌<◌, ◌≤◌, [], ◌∷◌, sym, refl, ap, ◌∙◌, arith}
 use Rattle.rules.specs.Chains.{chain, Later}
 
 pub chain_none : (next : ℕ → ℕ) (n : ℕ) → chain next n 0 ≡ []

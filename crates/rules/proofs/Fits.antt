@@ -1,10 +1,9 @@
 -- A summary that fits a head, and the literals that it sums up.
-use Rattle.std.proofs.Common.{◌≡◌, ℕ, zero, suc, ◌+◌, ◌≤◌, max, Bool, true, false, cond, not, ◌&&◌, ◌||◌, eqb, ltb, leb, ◌⊎◌, List, [], ◌∷◌, Some, None, Option, sym, refl, ap, ◌∙◌, inl, inr, arith}
+use Rattle.std.proofs.Common.{◌≡◌, ℕ, zero, suc, ◌+◌, ◌≤◌, max, Bool, true, false, cond, not, ◌&&◌, ◌||◌, eqb, ltb, leb, List, [], ◌∷◌, None, refl, ap, ◌∙◌, arith}
 use Rattle.std.proofs.lemmas.Bool.{and_parts, and_from, leb-true, le-leb, ne_eqb, cond-false}
-use Rattle.std.proofs.lemmas.Bool.Decides.{nat_tests}
 use Rattle.rules.specs.declared.layout.Layout.{Layout}
 use Rattle.rules.specs.declared.summaries.Summary.{Summary}
-use Rattle.rules.specs.First.{first, or_else, unless, dependent, literal_fits, literal_fault_under, body_fault, body_of}
+use Rattle.rules.specs.First.{first, dependent, literal_fits, literal_fault_under, body_fault, body_of}
 use Rattle.rules.specs.Summaries.{joined, literal_summary, body_summary, rules_summary, fits_head}
 use Rattle.rules.specs.Tables.{Tables}
 

@@ -1,17 +1,17 @@
 -- Checks that find nothing, and what their words then are.
-use Rattle.std.proofs.Common.{◌≡◌, ℕ, zero, suc, ◌+◌, ◌-◌, ◌<◌, ◌≤◌, Bool, true, false, not, ◌&&◌, ◌||◌, eqb, leb, ◌⊎◌, List, [], ◌∷◌, is_some, Some, None, Option, sym, refl, ap, ◌∙◌, subst, ap₂, inl, inr, arith}
+use Rattle.std.proofs.Common.{◌≡◌, ℕ, zero, suc, ◌+◌, ◌<◌, ◌≤◌, Bool, true, false, eqb, Some, None, Option, sym, refl, ap, ◌∙◌, ap₂, inl, inr, arith}
 use Rattle.std.specs.List.{range_with_len}
-use Rattle.std.proofs.lemmas.Bool.{and_parts, and_from, or_cases, leb-true, le-leb, eqb-true, cases_eq, true≢false}
+use Rattle.std.proofs.lemmas.Bool.{and_parts, or_cases, leb-true, le-leb, eqb-true, cases_eq}
 use Rattle.rules.specs.declared.kinds.Kind.{Kind}
 use Rattle.rules.specs.declared.kinds.Kind.TheVariants.{Fluent, Next, Does, Legal, Terminal, Further}
 use Rattle.rules.specs.declared.layout.Layout.{Layout}
 use Rattle.rules.specs.Chains.{chain, On, here, further, Later}
-use Rattle.rules.specs.First.{unless, or_else, first, within, stratum_fits, mark_fits, first_rule_fits, next_fits, name_fits, literal_fits, atom_fault, rule_fault, literal_fault, literal_fault_under, body_fault, head_fault, rules_under, body_of, records_fault}
+use Rattle.rules.specs.First.{unless, or_else, first, within, first_rule_fits, next_fits, name_fits, atom_fault, rule_fault, literal_fault, literal_fault_under, body_fault, head_fault, records_fault}
 use Rattle.rules.specs.Kinds.{kind_of}
 use Rattle.rules.specs.Linked.{Linked}
 use Rattle.rules.specs.Tables.{Tables}
 use Rattle.rules.specs.Taken.{AtomWords, RuleWords, LiteralWords, RecordsFit}
-use Rattle.rules.proofs.Chains.{chain_none, chain_step}
+use Rattle.rules.proofs.Chains.{chain_step}
 
 pub unless_none : {X : Type 0} (b : Bool) (x : X) → unless b x ≡ None → b ≡ true
 unless_none true x e = refl

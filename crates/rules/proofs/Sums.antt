@@ -1,9 +1,8 @@
 -- The summary of a chain from each record on, a record at a time.
-use Rattle.std.proofs.Common.{◌≡◌, ℕ, ◌<◌, ◌≤◌, sym, refl, ap, ◌∙◌}
+use Rattle.std.proofs.Common.{◌≡◌, ℕ, ◌<◌, ◌≤◌, ap}
 use Rattle.rules.specs.declared.layout.Layout.{Layout}
 use Rattle.rules.specs.declared.summaries.Summary.{Summary}
 use Rattle.rules.specs.Chains.{chain}
-use Rattle.rules.specs.First.{body_of}
 use Rattle.rules.specs.Linked.{Linked}
 use Rattle.rules.specs.Summaries.{empty, joined, literal_summary, body_summary, rules_summary}
 use Rattle.rules.specs.Tables.{Tables}

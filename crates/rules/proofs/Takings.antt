@@ -1,8 +1,7 @@
 -- A file without a fault is taken, and one that is taken has none.
-use Rattle.std.proofs.Common.{◌≡◌, ℕ, suc, ◌+◌, ◌*◌, ◌<◌, ◌≤◌, true, eqb, leb, List, [], ◌∷◌, length, Some, None, sym, refl, ap, ◌∙◌, arith}
-use Rattle.std.specs.List.{range_with_len}
+use Rattle.std.proofs.Common.{◌≡◌, ℕ, ◌+◌, ◌*◌, ◌<◌, ◌≤◌, true, List, length, None, refl, arith}
 use Rattle.std.proofs.lemmas.Bool.{leb-true, le-leb, eqb-true, eq-eqb}
-use Rattle.rules.specs.First.{first, first_fault, too_short, wrong_version, wrong_count, wrong_length, wrong_moves, few_atoms, records_fault, count_fits}
+use Rattle.rules.specs.First.{first_fault, too_short, wrong_version, wrong_count, wrong_length, wrong_moves, few_atoms, records_fault, count_fits}
 use Rattle.rules.specs.Tables.{tables, layout_of, words_of, roles_in, atoms_in, fluents_in, moves_in}
 use Rattle.rules.specs.Taken.{Taken}
 use Rattle.rules.specs.Words.{word}

@@ -1,5 +1,5 @@
 -- The first fault along a chain, a record at a time.
-use Rattle.std.proofs.Common.{◌≡◌, ℕ, suc, ◌+◌, ◌<◌, ◌≤◌, List, [], ◌∷◌, length, Some, None, Option, sym, refl, ap, ◌∙◌, arith}
+use Rattle.std.proofs.Common.{◌≡◌, ℕ, ◌<◌, ◌≤◌, length, Some, None, Option, sym, ap, ◌∙◌, arith}
 use Rattle.rules.specs.Chains.{chain, Later}
 use Rattle.rules.specs.First.{first, or_else}
 use Rattle.rules.proofs.Chains.{chain_none, chain_step}

@@ -1,5 +1,4 @@
 -- The tables of a file whose length agrees with its header.
-use Rattle.std.specs.Prelude.{ℕ, List}
 use Rattle.rules.specs.Tables.{Tables, tables}
 use Rattle.rules.specs.declared.file.File.{File}
 

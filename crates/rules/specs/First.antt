@@ -9,7 +9,7 @@ use Rattle.rules.specs.declared.faults.Fault.TheVariants.{TooShort, Version, Cou
 use Rattle.rules.specs.Words.{word}
 use Rattle.rules.specs.Kinds.{kind_of}
 use Rattle.rules.specs.Chains.{chain}
-use Rattle.rules.specs.Tables.{Tables, tables, layout_of, words_of, atom_word, rule_word, literal_word, fluents_in, roles_in, atoms_in, rules_in, literals_in, moves_in}
+use Rattle.rules.specs.Tables.{Tables, tables, layout_of, words_of, atom_word, rule_word, literal_word, fluents_in, roles_in, atoms_in, moves_in}
 
 -- a fault, unless a test passes
 abbrev pub unless : {X : Type 0} → Bool → X → Option X

@@ -1,7 +1,6 @@
 -- What opening a file answers.
 use Rattle.std.specs.Prelude.{◌≡◌, ℕ, List, map, Some, None, Ok, Err, vec_items, Result}
 use Rattle.std.specs.List.{range_with_len}
-use Rattle.rules.specs.declared.layout.Layout.{Layout}
 use Rattle.rules.specs.declared.records.Atom.{Atom}
 use Rattle.rules.specs.declared.records.Rule.{Rule}
 use Rattle.rules.specs.declared.records.Literal.{Literal}

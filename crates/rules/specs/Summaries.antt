@@ -1,6 +1,6 @@
 -- Summaries of chains: what a head must have so that every literal of a chain fits it. An aid to the check, so that shared chains
 -- are looked at once and not once for each head.
-use Rattle.std.specs.Prelude.{◌≡◌, ℕ, ◌+◌, ◌≤◌, max, Bool, true, false, not, ◌&&◌, ◌||◌, List, [], ◌∷◌, length, nat_le, slice_index_or}
+use Rattle.std.specs.Prelude.{◌≡◌, ℕ, ◌+◌, ◌≤◌, max, Bool, false, not, ◌&&◌, ◌||◌, List, [], ◌∷◌, nat_le, slice_index_or}
 use Rattle.rules.specs.declared.layout.Layout.{Layout}
 use Rattle.rules.specs.declared.summaries.Summary.{Summary}
 use Rattle.rules.specs.Tables.{Tables}

@@ -1,5 +1,5 @@
 -- What a rule file holds, as tables of words by record number. Records of a kind are numbered from 1.
-use Rattle.std.specs.Prelude.{ℕ, zero, suc, ◌+◌, ◌-◌, ◌*◌, List, [], ◌∷◌, map}
+use Rattle.std.specs.Prelude.{ℕ, ◌+◌, ◌-◌, ◌*◌, List, [], ◌∷◌, map}
 use Rattle.std.specs.List.{range_with_len}
 use Rattle.rules.specs.Words.{word}
 use Rattle.rules.specs.declared.layout.Layout.{Layout}

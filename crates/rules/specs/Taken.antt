@@ -1,12 +1,11 @@
 -- When a rule file is taken: what each of its words must be.
-use Rattle.std.specs.Prelude.{◌≡◌, ℕ, ◌+◌, ◌*◌, ◌<◌, ◌≤◌, Bool, true, List, length}
-use Rattle.rules.specs.declared.kinds.Kind.{Kind}
+use Rattle.std.specs.Prelude.{◌≡◌, ℕ, ◌+◌, ◌*◌, ◌<◌, ◌≤◌, true, List, length}
 use Rattle.rules.specs.declared.layout.Layout.{Layout}
 use Rattle.rules.specs.Chains.{On}
 use Rattle.rules.specs.First.{within, stratum_fits, mark_fits, first_rule_fits, next_fits, name_fits, literal_fits}
 use Rattle.rules.specs.Kinds.{kind_of}
-use Rattle.rules.specs.Tables.{Tables, tables, layout_of, words_of, move_counts}
-use Rattle.rules.specs.Typed.{Counted, Enough, Moving}
+use Rattle.rules.specs.Tables.{Tables, tables, layout_of, words_of}
+use Rattle.rules.specs.Typed.{Counted, Enough}
 use Rattle.rules.specs.Words.{word}
 
 -- the words of an atom record, a rule record and a literal record

@@ -1,9 +1,9 @@
 -- A tree that closes a case covers the full settings that agree with the case.
-use Rattle.std.proofs.Common.{◌≡◌, ℕ, zero, suc, ◌+◌, ◌-◌, ◌*◌, ◌<◌, ◌≤◌, Bool, true, false, eqb, ◌≢◌, ◌⊎◌, List, [], ◌∷◌, length, get_or, set, sym, refl, ap, ◌∙◌, subst, inl, inr, ⊎_elim, arith}
+use Rattle.std.proofs.Common.{◌≡◌, ℕ, ◌+◌, ◌<◌, ◌≤◌, Bool, true, eqb, ◌≢◌, List, length, get_or, set, sym, refl, ap, ◌∙◌, inl, inr, ⊎_elim, arith}
 use Rattle.std.proofs.lemmas.List.{length-set, get_or-set_same, get_or-set_other}
 use Rattle.std.proofs.lemmas.Bool.{cases_Bool, eqb-true, eqb-false}
-use Rattle.splits.specs.Inputs.{Inputs, entries, branch_count, IsInput}
-use Rattle.splits.specs.Trees.{Tree, close, split, Trees, no_more, branch, Closes, CloseBranches, Whole}
+use Rattle.splits.specs.Inputs.{Inputs, entries, branch_count}
+use Rattle.splits.specs.Trees.{Tree, close, split, Trees, no_more, branch, Closes, CloseBranches}
 use Rattle.splits.specs.Coverage.{Full, Agrees, Ends, EndBranches, TreeCovers, WholeExcludes}
 
 module _ (closed : List ℕ → Bool) (s : Inputs) (f : List ℕ) (full : Full s f) where

@@ -1,20 +1,18 @@
 -- Each turn of the draft keeps what stands.
-use Rattle.std.proofs.Common.{◌≡◌, ℕ, zero, suc, ◌+◌, ◌-◌, ◌*◌, ◌/◌, ◌%◌, ◌<◌, ◌≤◌, Bool, true, false, cond, eqb, ltb, leb, ◌≢◌, List, [], ◌∷◌, ◌++◌, length, get_or, set, replicate, Some, None, Ok, Err, Option, Result, sym, refl, ap, ◌∙◌, subst, ⊎_elim, arith}
+use Rattle.std.proofs.Common.{◌≡◌, ℕ, suc, ◌+◌, ◌-◌, ◌*◌, ◌/◌, ◌%◌, ◌<◌, ◌≤◌, Bool, true, false, cond, ltb, ◌≢◌, List, [], ◌∷◌, ◌++◌, length, get_or, set, replicate, Some, None, Ok, Err, Option, sym, refl, ap, ◌∙◌, subst, ⊎_elim, arith}
 use Rattle.std.proofs.lemmas.List.{append_assoc, append-nil, length-append, set-set, set-get_or, get_or-set_same, get_or-set_other}
 use Rattle.std.proofs.lemmas.Bool.{cond-true, cond-false, lt-ltb, lt-leb, le-leb, cases_order}
 use Rattle.std.proofs.lemmas.Bool.Decides.{nat_tests}
-use Rattle.splits.specs.Trees.{Tree, close, split, Trees, no_more, branch, size, sizes, is_end, next, file, files}
-use Rattle.splits.specs.Inputs.{Inputs, Proper, entries, first_input, branch_count}
+use Rattle.splits.specs.Trees.{Tree, close, split, size, file, files}
+use Rattle.splits.specs.Inputs.{Inputs, entries, first_input, branch_count}
 use Rattle.splits.specs.Records.{kind_of, number_of, level_of, split_record}
 use Rattle.splits.specs.declared.records.Record.{Record}
-use Rattle.splits.specs.Plain.{Drawn, made, shows, Drawns, mades, shows_after, joined, each, node, plain, plain_from, drawn, bytes, put, places, Unsettled, drafted, area_after, settings_after, needed}
+use Rattle.splits.specs.Plain.{Drawn, made, shows, each, node, plain, plain_from, drawn, bytes, put, places, Unsettled, drafted, area_after, settings_after, needed}
 use Rattle.splits.specs.declared.cases.Case.{Case}
-use Rattle.splits.specs.declared.drafted.Drafted.{Drafted}
-use Rattle.splits.specs.declared.drafted.Drafted.TheVariants.{File, Play}
-use Rattle.splits.specs.declared.drafted.TooSmall.{TooSmall}
+use Rattle.splits.specs.declared.drafted.Drafted.TheVariants.{Play}
 use Rattle.splits.proofs.SplitWords.{kind_word, number_word, level_word}
 use Rattle.splits.proofs.Counts.{first_low}
-use Rattle.splits.proofs.Stacks.{none, stack, length_stack, stack_push, stack_top, stack_change}
+use Rattle.splits.proofs.Stacks.{none, stack, stack_push, stack_top, stack_change}
 use Rattle.splits.proofs.Draws.{tree_of, done_size, done_files, needs_all, sub, Drawing, written, Over, State, Drafting, trees_from, each_made, size_done, files_done, length_done, bytes_append, length_bytes, put_in, plain_closed, plain_split, here, up_shows, up_needs, node_needs}
 
 size_pos : (t : Tree) → 0 < size t

@@ -1,14 +1,14 @@
 -- What stands at each turn of the draft.
-use Rattle.std.proofs.Common.{◌≡◌, ℕ, zero, suc, ◌+◌, ◌-◌, ◌*◌, ◌/◌, ◌%◌, ◌<◌, ◌≤◌, Bool, true, false, cond, eqb, ltb, leb, List, [], ◌∷◌, ◌++◌, length, get_or, set, replicate, Some, None, Option, sym, refl, ap, ◌∙◌, subst, arith}
-use Rattle.splits.specs.Trees.{Tree, close, split, Trees, no_more, branch, size, sizes, is_end, next, file, files}
-use Rattle.splits.specs.Inputs.{Inputs, Proper, entries, first_input, branch_count}
-use Rattle.splits.specs.Plain.{Drawn, made, shows, Drawns, mades, shows_after, joined, each, node, plain, plain_from, drawn, bytes, put, places, Unsettled, drafted, area_after, settings_after, needed}
+use Rattle.std.proofs.Common.{◌≡◌, ℕ, zero, suc, ◌+◌, ◌-◌, ◌*◌, ◌/◌, ◌%◌, ◌<◌, ◌≤◌, Bool, true, false, List, [], ◌∷◌, ◌++◌, length, get_or, set, replicate, Some, None, Option, sym, refl, ap, ◌∙◌, arith}
+use Rattle.splits.specs.Trees.{Tree, close, Trees, no_more, branch, size, sizes, file, files}
+use Rattle.splits.specs.Inputs.{Inputs, entries, first_input, branch_count}
+use Rattle.splits.specs.Plain.{Drawn, made, shows, Drawns, mades, shows_after, joined, each, node, plain, plain_from, drawn, bytes, put, needed}
 use Rattle.splits.specs.declared.cases.Case.{Case}
-use Rattle.std.proofs.lemmas.List.{append_assoc, length-append, length-set, set-set, set-get_or, get_or-set_same, get_or-set_other, set-append_right, length-replicate}
-use Rattle.std.proofs.lemmas.Bool.{cond-true, cond-false, lt-ltb, le-ltb, lt-leb, le-leb}
+use Rattle.std.proofs.lemmas.List.{append_assoc, length-append, set-set, set-get_or, set-append_right}
+use Rattle.std.proofs.lemmas.Bool.{cond-true, cond-false}
 use Rattle.splits.proofs.Wholes.{length_file}
 use Rattle.splits.proofs.SplitWords.{kind_word, number_word, level_word}
-use Rattle.splits.proofs.Stacks.{none, stack, length_stack, stack_push, stack_top, stack_change}
+use Rattle.splits.proofs.Stacks.{stack}
 
 abbrev pub tree_of : Drawn → Tree
 tree_of (made t) = t

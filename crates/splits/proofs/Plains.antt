@@ -1,15 +1,12 @@
 -- The plain tree closes its case and is small; what is shown is a settled case that is not closed.
-use Rattle.std.proofs.Common.{◌≡◌, ℕ, zero, suc, ◌+◌, ◌-◌, ◌*◌, ◌/◌, ◌%◌, ◌<◌, ◌≤◌, Bool, true, false, cond, leb, ◌≢◌, ◌⊎◌, List, [], ◌∷◌, ◌++◌, length, get_or, take, set, replicate, Ok, Err, Result, sym, refl, ap, ◌∙◌, subst, inl, inr, ⊎_elim, mul_assoc, suc-mul, mul-one, mul-add, arith}
+use Rattle.std.proofs.Common.{◌≡◌, ℕ, zero, suc, ◌+◌, ◌-◌, ◌*◌, ◌/◌, ◌%◌, ◌<◌, ◌≤◌, Bool, true, false, leb, ◌≢◌, ◌⊎◌, List, [], ◌∷◌, length, get_or, take, set, replicate, Ok, sym, refl, ap, ◌∙◌, subst, inl, inr, ⊎_elim, mul_assoc, suc-mul, mul-one, mul-add, arith}
 use Rattle.std.proofs.lemmas.List.{get_or-set_other, get_or-set_same, length-set, take_at}
 use Rattle.std.proofs.lemmas.Bool.{cond-true, cond-false, cases_Bool, cases_eq, leb-true, false≢true}
-use Rattle.splits.specs.Inputs.{Inputs, Proper, entries, first_input, branch_count, IsInput}
+use Rattle.splits.specs.Inputs.{Inputs, Proper, entries, first_input, branch_count}
 use Rattle.splits.specs.Walk.{walked}
 use Rattle.splits.specs.Trees.{Tree, close, split, Trees, no_more, branch, Closes, CloseBranches, size, sizes, file, words}
-use Rattle.splits.specs.Coverage.{Full}
-use Rattle.splits.specs.Plain.{Drawn, made, shows, Drawns, mades, shows_after, joined, each, node, plain, plain_from, drawn, copies, whole_tree, whole_split, sum_of_products, whole_count, bytes, needed, places, drafted, area_after, Unsettled, Settles, PlainCloses, PlainShows, PlainMade, DraftIsTaken, PlainIsSmall, WholeCounts}
-use Rattle.splits.specs.declared.drafted.Drafted.{Drafted}
-use Rattle.splits.specs.declared.drafted.Drafted.TheVariants.{File, Play}
-use Rattle.splits.specs.declared.drafted.TooSmall.{TooSmall}
+use Rattle.splits.specs.Plain.{Drawn, made, shows, Drawns, mades, shows_after, joined, each, node, plain, drawn, copies, whole_tree, sum_of_products, bytes, needed, places, drafted, area_after, Unsettled, Settles, PlainCloses, PlainShows, PlainMade, DraftIsTaken, PlainIsSmall, WholeCounts}
+use Rattle.splits.specs.declared.drafted.Drafted.TheVariants.{File}
 use Rattle.splits.proofs.Counts.{first_low}
 use Rattle.splits.proofs.Wholes.{length_file, if_whole}
 use Rattle.splits.proofs.Draws.{length_bytes}

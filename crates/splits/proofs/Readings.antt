@@ -1,7 +1,7 @@
 -- What a record without a fault says.
-use Rattle.std.proofs.Common.{◌≡◌, ℕ, zero, suc, ◌+◌, ◌-◌, ◌*◌, ◌/◌, ◌%◌, ◌<◌, ◌≤◌, Bool, true, false, cond, eqb, ltb, ◌⊎◌, List, length, get_or, Some, None, Ok, Err, Option, Result, sym, refl, ap, ◌∙◌, subst, inl, inr, ⊎_elim, arith}
+use Rattle.std.proofs.Common.{◌≡◌, ℕ, ◌+◌, ◌-◌, ◌*◌, ◌<◌, ◌≤◌, cond, eqb, ◌⊎◌, List, length, get_or, Some, Ok, Err, Option, Result, sym, refl, ap, ◌∙◌, subst, ⊎_elim, arith}
 use Rattle.std.proofs.lemmas.Bool.Decides.{nat_tests}
-use Rattle.splits.specs.Inputs.{Inputs, entries, first_of, first_input, IsInput, IsChoice, choice_entry}
+use Rattle.splits.specs.Inputs.{Inputs, first_of, IsInput, choice_entry}
 use Rattle.splits.specs.Records.{word, record_at, closing, of_fluent, of_choice, if_step, split_input, IsRecord}
 use Rattle.splits.specs.Walk.{then_on, input_at}
 use Rattle.play.specs.declared.part.Part.{Part}

@@ -1,16 +1,13 @@
 -- What is still to come of a walk, by the stack of its splits; each turn of the walk keeps it.
-use Rattle.std.proofs.Common.{◌≡◌, ℕ, zero, suc, ◌+◌, ◌-◌, ◌*◌, ◌/◌, ◌<◌, ◌≤◌, Bool, true, false, cond, eqb, ltb, ◌⊎◌, List, [], ◌∷◌, length, get_or, set, Some, None, Ok, Err, Option, Result, sym, refl, ap, ◌∙◌, inl, inr, ⊎_elim, arith}
+use Rattle.std.proofs.Common.{◌≡◌, ℕ, zero, suc, ◌+◌, ◌-◌, ◌*◌, ◌/◌, ◌<◌, ◌≤◌, Bool, true, false, cond, eqb, ◌⊎◌, List, [], ◌∷◌, length, get_or, set, Some, None, Ok, Err, Option, Result, sym, refl, ap, ◌∙◌, inl, inr, ⊎_elim, arith}
 use Rattle.std.proofs.lemmas.List.{length-set, set-set, set-get_or}
 use Rattle.std.proofs.lemmas.Bool.{lt-ltb, le-ltb, eq-eqb, ne_eqb, cond-true, cond-false, cases_lt, cases_Bool}
-use Rattle.splits.specs.Inputs.{Inputs, Proper, entries, branch_count}
-use Rattle.splits.specs.Records.{word, record_at, split_input}
-use Rattle.splits.specs.Walk.{then_on, next_checked, input_at, ended, taken, node, branches, subtree, finished}
-use Rattle.splits.specs.declared.records.Record.{Record}
-use Rattle.splits.specs.declared.records.Record.TheVariants.{Close, Fluent, Choice}
+use Rattle.splits.specs.Inputs.{Inputs, entries, branch_count}
+use Rattle.splits.specs.Walk.{then_on, next_checked, input_at, ended, taken, branches, subtree, finished}
 use Rattle.splits.specs.declared.records.RecordFault.{RecordFault}
 use Rattle.splits.specs.declared.cases.Case.{Case}
 use Rattle.splits.specs.declared.faults.WalkFault.{WalkFault}
-use Rattle.splits.specs.declared.faults.WalkFault.TheVariants.{PastEnd, OfRecord, NotClosed, Next, LeftOver}
+use Rattle.splits.specs.declared.faults.WalkFault.TheVariants.{PastEnd, OfRecord, NotClosed}
 use Rattle.splits.proofs.Opens.{open_of, open_low, open_some, open_more}
 
 -- a record number, if there is one, is below n

@@ -1,5 +1,5 @@
 -- What a shape holds.
-use Rattle.splits.specs.Inputs.{Inputs, Proper}
+use Rattle.splits.specs.Inputs.{Proper}
 use Rattle.splits.specs.Shapes.{inputs}
 use Rattle.splits.specs.declared.shape.Shape.{Shape}
 

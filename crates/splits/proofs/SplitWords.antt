@@ -1,17 +1,16 @@
 -- The words of the record that splits an input: they are read as that split, and only they are.
-use Rattle.std.proofs.Common.{◌≡◌, ℕ, zero, suc, ◌+◌, ◌-◌, ◌*◌, ◌/◌, ◌%◌, ◌<◌, ◌≤◌, Bool, true, false, cond, eqb, ltb, ◌⊎◌, List, length, get_or, Some, None, Ok, Err, Option, Result, sym, refl, ap, ◌∙◌, subst, inl, inr, ⊎_elim, mul_comm, arith}
+use Rattle.std.proofs.Common.{◌≡◌, ℕ, ◌+◌, ◌-◌, ◌*◌, ◌/◌, ◌%◌, ◌<◌, ◌≤◌, List, length, get_or, Some, None, Ok, Err, sym, refl, ap, ◌∙◌, subst, ⊎_elim, mul_comm, arith}
 use Rattle.std.proofs.lemmas.Nat.{div-add-mod', div-mul-add, mod-mul-add, div_below, mod_below}
 use Rattle.std.proofs.lemmas.Bool.{eq-eqb, ne_eqb, cond-true, cond-false, cases_lt, lt-ltb, le-ltb}
 use Rattle.splits.specs.Inputs.{Inputs, Proper, entries, first_of, IsInput, IsChoice, choice_entry}
-use Rattle.splits.specs.Records.{word, kind_of, number_of, level_of, record_at, closing, of_fluent, of_choice, if_step, split_input, split_record}
-use Rattle.splits.specs.Walk.{input_at, then_on}
+use Rattle.splits.specs.Records.{word, kind_of, number_of, level_of, record_at, of_fluent, if_step, split_input, split_record}
+use Rattle.splits.specs.Walk.{input_at}
 use Rattle.play.specs.declared.part.Part.{Part}
 use Rattle.play.specs.declared.part.Part.TheVariants.{Base, Step}
 use Rattle.splits.specs.declared.records.Record.{Record}
 use Rattle.splits.specs.declared.records.Record.TheVariants.{Close, Fluent, Choice}
-use Rattle.splits.specs.declared.records.RecordFault.{RecordFault}
 use Rattle.splits.specs.declared.records.RecordFault.TheVariants.{Kind}
-use Rattle.splits.proofs.Readings.{Reads, reads, told, then_ok, split_input_open}
+use Rattle.splits.proofs.Readings.{Reads, reads, told, then_ok}
 
 abbrev pub kind_word : Inputs → ℕ → ℕ
 kind_word s k = kind_of (split_record s k)

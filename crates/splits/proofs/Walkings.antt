@@ -1,20 +1,17 @@
 -- What stands at each turn of the walk, and that each turn keeps it.
-use Rattle.std.proofs.Common.{◌≡◌, ℕ, zero, suc, ◌+◌, ◌-◌, ◌*◌, ◌/◌, ◌%◌, ◌<◌, ◌≤◌, Bool, true, false, cond, eqb, ltb, List, [], ◌∷◌, length, get_or, set, Some, None, Ok, Err, Option, Result, sym, refl, ap, ◌∙◌, subst, arith}
-use Rattle.std.proofs.lemmas.List.{length-set, set-set, set-get_or, get_or-set_same}
+use Rattle.std.proofs.Common.{◌≡◌, ℕ, suc, ◌+◌, ◌-◌, ◌*◌, ◌/◌, ◌%◌, ◌<◌, ◌≤◌, Bool, true, false, List, [], ◌∷◌, length, get_or, set, Some, None, Ok, Err, Option, sym, refl, ap, ◌∙◌, subst, arith}
+use Rattle.std.proofs.lemmas.List.{set-set, set-get_or, get_or-set_same}
 use Rattle.std.proofs.lemmas.Bool.Decides.{nat_tests}
 use Rattle.std.proofs.lemmas.Bool.{cond-true}
-use Rattle.splits.specs.Inputs.{Inputs, Proper, entries, branch_count}
-use Rattle.splits.specs.Records.{word, record_at, split_input}
-use Rattle.splits.specs.Walk.{then_on, next_checked, input_at, subtree, finished, walked, sized}
-use Rattle.splits.specs.declared.records.Record.{Record}
-use Rattle.splits.specs.declared.records.Record.TheVariants.{Close, Fluent, Choice}
+use Rattle.splits.specs.Inputs.{Inputs, entries, branch_count}
+use Rattle.splits.specs.Walk.{next_checked, input_at, walked, sized}
 use Rattle.splits.specs.declared.records.RecordFault.{RecordFault}
 use Rattle.splits.specs.declared.cases.Case.{Case}
 use Rattle.splits.specs.declared.faults.WalkFault.{WalkFault}
-use Rattle.splits.specs.declared.faults.WalkFault.TheVariants.{PastEnd, OfRecord, NotClosed, Next, LeftOver}
+use Rattle.splits.specs.declared.faults.WalkFault.TheVariants.{PastEnd, OfRecord, NotClosed}
 use Rattle.splits.proofs.Readings.{split_input_open}
 use Rattle.splits.proofs.Stacks.{none, stack, length_stack, stack_push, stack_top, stack_change}
-use Rattle.splits.proofs.Resumes.{Below, left, is_last, Standing, standing_room, pending, pending_past, pending_fault, pending_open, pending_close, pending_split, pending_wrong, pending_root, pending_pop, pending_next}
+use Rattle.splits.proofs.Resumes.{Below, is_last, Standing, standing_room, pending, pending_past, pending_fault, pending_open, pending_close, pending_split, pending_wrong, pending_pop, pending_next}
 
 pub record Walking (closed : List ℕ → Bool) (inp : Inputs) (bs c₀ : List ℕ) (d i : ℕ) (c : List ℕ) (cs : List Case) (over : Option ℕ) : Type 0 where
   pub within : i ≤ length bs / 8

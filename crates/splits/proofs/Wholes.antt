@@ -1,19 +1,19 @@
 -- The walk takes exactly the whole files.
-use Rattle.std.proofs.Common.{◌≡◌, ℕ, zero, suc, ◌+◌, ◌-◌, ◌*◌, ◌/◌, ◌%◌, ◌<◌, ◌≤◌, Bool, true, false, cond, eqb, ltb, ◌⊎◌, List, [], ◌∷◌, ◌++◌, length, get_or, drop, set, Some, None, Ok, Err, Result, sym, refl, ap, ◌∙◌, subst, inl, inr, ⊎_elim, arith}
+use Rattle.std.proofs.Common.{◌≡◌, ℕ, zero, suc, ◌+◌, ◌*◌, ◌/◌, ◌%◌, ◌<◌, ◌≤◌, Bool, true, cond, eqb, List, [], ◌++◌, length, get_or, drop, set, None, Ok, Err, Result, sym, refl, ap, ◌∙◌, subst, ⊎_elim, arith}
 use Rattle.std.proofs.lemmas.List.{length-set, append_assoc, append-nil, drop_all, length-append}
-use Rattle.std.proofs.lemmas.Bool.{eq-eqb, ne_eqb, eqb-true, eqb-false, cond-true, cond-false, cases_Bool, cases_lt, lt-ltb, le-ltb}
+use Rattle.std.proofs.lemmas.Bool.{eq-eqb, ne_eqb, eqb-true, cond-true, cond-false, cases_Bool, cases_lt, lt-ltb, le-ltb}
 use Rattle.std.proofs.lemmas.Bool.Decides.{nat_tests}
 use Rattle.splits.specs.Inputs.{Inputs, Proper, entries, branch_count}
 use Rattle.splits.specs.Records.{word}
-use Rattle.splits.specs.Walk.{then_on, next_checked, input_at, ended, branches, subtree, finished, sized, walked}
+use Rattle.splits.specs.Walk.{then_on, input_at, ended, branches, subtree, finished, sized, walked}
 use Rattle.splits.specs.Trees.{Tree, close, split, Trees, no_more, branch, Closes, CloseBranches, size, sizes, is_end, next, file, files, words, Whole, WalkTakesWhole}
 use Rattle.splits.specs.declared.faults.WalkFault.{WalkFault}
-use Rattle.splits.specs.declared.faults.WalkFault.TheVariants.{Next, LeftOver}
+use Rattle.splits.specs.declared.faults.WalkFault.TheVariants.{Next}
 use Rattle.splits.proofs.Opens.{open_of, open_low, open_some, open_less}
 use Rattle.splits.proofs.Readings.{then_ok, split_input_open}
 use Rattle.splits.proofs.SplitWords.{kind_word, number_word, level_word, reads_split, says_split, reads_close, says_close}
-use Rattle.splits.proofs.Standings.{length_words, drop_record, Stands, stands}
-use Rattle.splits.proofs.Resumes.{sub_close, sub_split, sub_ok, Starts, Begins}
+use Rattle.splits.proofs.Standings.{length_words, drop_record, stands}
+use Rattle.splits.proofs.Resumes.{sub_close, sub_split, sub_ok, Begins}
 
 module _ (inp : Inputs) where
   mutual

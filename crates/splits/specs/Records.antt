@@ -1,5 +1,5 @@
 -- What the records of a split file say, each in its case.
-use Rattle.std.specs.Prelude.{◌≡◌, ℕ, ◌+◌, ◌-◌, ◌*◌, ◌/◌, ◌%◌, ◌<◌, ◌≤◌, Bool, true, false, cond, List, [], ◌∷◌, length, Some, None, Ok, Err, Option, Result, ◌==◌, nat_lt, slice_index}
+use Rattle.std.specs.Prelude.{ℕ, ◌+◌, ◌-◌, ◌*◌, ◌/◌, ◌%◌, ◌<◌, ◌≤◌, cond, List, [], ◌∷◌, length, Some, None, Ok, Err, Option, Result, ◌==◌, nat_lt, slice_index}
 use Rattle.splits.specs.Inputs.{Inputs, IsChoice, choice_entry}
 use Rattle.play.specs.declared.part.Part.{Part}
 use Rattle.play.specs.declared.part.Part.TheVariants.{Base, Step}

@@ -1,5 +1,5 @@
 -- Trees of cases, and the file of a tree.
-use Rattle.std.specs.Prelude.{◌≡◌, ℕ, ◌+◌, ◌*◌, ◌<◌, ◌≤◌, Bool, true, false, cond, List, [], ◌∷◌, ◌++◌, length, Ok, slice_index, slice_set}
+use Rattle.std.specs.Prelude.{◌≡◌, ℕ, ◌+◌, ◌*◌, ◌≤◌, Bool, true, false, cond, List, [], ◌∷◌, ◌++◌, length, Ok, slice_index, slice_set}
 use Rattle.splits.specs.Inputs.{Inputs, Proper, entries, branch_count, IsInput}
 use Rattle.splits.specs.Records.{record_words, split_record}
 use Rattle.splits.specs.Walk.{walked}

@@ -1,6 +1,6 @@
 -- The three-way form: one world.
 use Rattle.std.specs.Prelude.{Bool, true, false, cond, ◌&&◌, ◌||◌}
-use Rattle.truth.specs.Forms.{Answers, only_yes, only_no, both, Meaning}
+use Rattle.truth.specs.Forms.{only_yes, only_no, both, Meaning}
 use Rattle.truth.specs.declared.three.Three.{Three}
 use Rattle.truth.specs.declared.three.Three.TheVariants.{Yes, No, Open}
 

@@ -27,8 +27,8 @@ use Rattle.parts.specs.Values.{part_value}
 use Rattle.parts.proofs.Lawful.{exact}
 use Rattle.parts.proofs.Stills.{records_are_still}
 use Rattle.docket.specs.Choices.{choice_of}
-use Rattle.docket.specs.Dockets.{trees_of, properties_of}
-use Rattle.docket.specs.Inputs.{starting, doing, move_byte}
+use Rattle.docket.specs.Dockets.{trees_of}
+use Rattle.docket.specs.Inputs.{move_byte}
 use Rattle.docket.specs.Plays.{byte_is}
 use Rattle.docket.specs.Truths.{Fitting}
 use Rattle.docket.proofs.Inputs.{does_small}

@@ -1,9 +1,9 @@
-use Rattle.std.proofs.Common.{◌≡◌, ℕ, ◌<◌, ◌≤◌, Bool, true, false, cond, ltb, sym, refl, ap, ◌∙◌, ap₂, arith}
+use Rattle.std.proofs.Common.{◌≡◌, Bool, true, false, cond, ltb, refl, ap, ◌∙◌, ap₂, arith}
 use Rattle.std.proofs.lemmas.Bool.{lt-ltb, le-ltb}
 use Rattle.truth.specs.Bit.{bit}
 use Rattle.truth.specs.Forms.{Answers, only_yes, only_no, both, Meaning}
 use Rattle.truth.specs.Kleene.{meet}
-use Rattle.truth.specs.Wide.{Place, means, by_mask, yes_allowed}
+use Rattle.truth.specs.Wide.{Place, means, yes_allowed}
 use Rattle.evaluate.specs.Claims.{just}
 use Rattle.docket.proofs.marking.mark.Goals as goal
 

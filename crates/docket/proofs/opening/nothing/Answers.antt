@@ -1,4 +1,4 @@
-use Rattle.std.proofs.Common.{◌≡◌, ℕ, true, List, [], ◌∷◌, is_ok, Ok, Err, Result, refl, ◌∙◌, arith}
+use Rattle.std.proofs.Common.{◌≡◌, ℕ, true, List, [], ◌∷◌, is_ok, Ok, Err, Result, refl, arith}
 use Rattle.property.specs.declared.faults.Fault.{Fault}
 use Rattle.property.specs.declared.properties.Property.{Property}
 use Rattle.property.specs.declared.records.Record.{Record}

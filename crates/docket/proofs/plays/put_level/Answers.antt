@@ -1,6 +1,5 @@
-use Rattle.std.proofs.Common.{◌≡◌, ℕ, ◌+◌, ◌*◌, ◌<◌, ◌&&◌, ltb, length, set, sym, refl, ap, ◌∙◌, subst, arith}
-use Rattle.truth.specs.Wide.{means, by_mask}
-use Rattle.truth.specs.declared.wide.Wide.{Wide}
+use Rattle.std.proofs.Common.{◌≡◌, ℕ, ◌+◌, ◌*◌, ◌<◌, ◌&&◌, ltb, length, set, sym, ap, ◌∙◌, subst, arith}
+use Rattle.truth.specs.Wide.{means}
 use Rattle.rules.specs.Opens.{moves_of}
 use Rattle.evaluate.specs.Grids.{place}
 use Rattle.evaluate.specs.Positions.{fluents, choices, does_at}

@@ -1,6 +1,5 @@
-use Rattle.std.proofs.Common.{◌≡◌, ◌+◌, ◌*◌, ◌<◌, ◌≤◌, length, get_or, sym, refl, ap, ◌∙◌, arith}
+use Rattle.std.proofs.Common.{◌≡◌, ◌+◌, ◌*◌, get_or, ap, ◌∙◌, arith}
 use Rattle.truth.specs.Wide.{means}
-use Rattle.evaluate.specs.Positions.{fluents}
 use Rattle.docket.proofs.plays.put_plays.Goals as goal
 
 pub returns : goal.returns

@@ -1,8 +1,5 @@
-use Rattle.std.proofs.Common.{◌≡◌, ◌<◌, ◌&&◌, ltb, length, ap, ◌∙◌, arith}
+use Rattle.std.proofs.Common.{◌<◌, ◌&&◌, ltb, length, ap, ◌∙◌, arith}
 use Rattle.truth.specs.Wide.{means}
-use Rattle.evaluate.specs.Positions.{fluents}
-use Rattle.evaluate.proofs.Chains.{few_atoms}
-use Rattle.evaluate.proofs.Fitting.{enough}
 use Rattle.docket.specs.Inputs.{starting}
 use Rattle.docket.specs.Plays.{byte_is}
 use Rattle.docket.proofs.Inputs.{few_fluents, mask_means, put_starts, put_goes}

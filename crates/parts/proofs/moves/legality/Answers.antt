@@ -1,7 +1,7 @@
-use Rattle.std.proofs.Common.{◌≡◌, suc, ◌+◌, ◌-◌, ◌<◌, ◌≤◌, sym, ap, ◌∙◌, ap₂, arith}
+use Rattle.std.proofs.Common.{◌≡◌, suc, ◌+◌, ◌-◌, ◌<◌, sym, ap, ◌∙◌, ap₂, arith}
 use mathlib.Core.Path.{fun_ext}
 use Rattle.evaluate.specs.Meanings.{meanings}
-use Rattle.parts.specs.Values.{ended, every_move, legality_from}
+use Rattle.parts.specs.Values.{ended, legality_from}
 use Rattle.parts.proofs.moves.legality.Goals as goal
 
 pub loop-level-init : goal.loop-level-init

@@ -2,7 +2,7 @@ use Rattle.std.proofs.Common.{◌≡◌, ◌+◌, ◌*◌, ap, ◌∙◌, ap₂}
 use mathlib.Core.Path.{fun_ext}
 use Rattle.evaluate.specs.Evaluate.{look}
 use Rattle.evaluate.specs.Meanings.{meanings}
-use Rattle.evaluate.specs.Positions.{choices, fluents, does_at, legal_at}
+use Rattle.evaluate.specs.Positions.{choices, fluents}
 use Rattle.parts.proofs.moves.undone_or_legal.Goals as goal
 
 pub returns : goal.returns

@@ -1,4 +1,4 @@
-use Rattle.std.proofs.Common.{◌≡◌, ℕ, ◌+◌, ◌<◌, Bool, length, get_or, sym, ap, ◌∙◌, subst, arith}
+use Rattle.std.proofs.Common.{◌≡◌, ◌+◌, ◌<◌, Bool, length, get_or, sym, ap, ◌∙◌, subst, arith}
 use Rattle.evaluate.specs.Meanings.{meanings}
 use Rattle.property.specs.declared.properties.Property.{Property}
 use Rattle.property.specs.Reads.{Fits, records_of}

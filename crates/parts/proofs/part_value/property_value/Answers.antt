@@ -1,4 +1,4 @@
-use Rattle.std.proofs.Common.{◌≡◌, ℕ, ◌-◌, ◌≤◌, List, length, sym, ap, ◌∙◌, subst, ap₂, arith}
+use Rattle.std.proofs.Common.{◌≡◌, ◌-◌, ◌≤◌, List, length, sym, ap, ◌∙◌, subst, ap₂, arith}
 use Rattle.evaluate.specs.Meanings.{meanings}
 use Rattle.property.specs.declared.records.Record.{Record}
 use Rattle.property.specs.Linked.{Linked}

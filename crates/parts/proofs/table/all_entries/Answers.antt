@@ -1,11 +1,11 @@
-use Rattle.std.proofs.Common.{◌≡◌, ℕ, ◌+◌, ◌-◌, ◌<◌, ◌≤◌, length, get_or, sym, ap, ◌∙◌, ap₂, arith}
+use Rattle.std.proofs.Common.{◌≡◌, ◌-◌, ◌<◌, get_or, sym, ap, ◌∙◌, ap₂, arith}
 use mathlib.Core.Path.{fun_ext}
 use Rattle.evaluate.specs.Meanings.{meanings}
 use Rattle.property.specs.Trees.{reading_at}
 use Rattle.property.specs.Typed.{record_at, unused}
 use Rattle.property.proofs.Links.{next_at}
 use Rattle.property.proofs.Standing.{operands_step}
-use Rattle.parts.specs.Values.{value, all_value}
+use Rattle.parts.specs.Values.{all_value}
 use Rattle.parts.proofs.table.all_entries.Goals as goal
 
 pub loop-at-init : goal.loop-at-init

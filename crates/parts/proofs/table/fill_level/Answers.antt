@@ -1,4 +1,4 @@
-use Rattle.std.proofs.Common.{◌≡◌, ℕ, ◌+◌, ◌-◌, ◌<◌, ◌≤◌, set, sym, ap, ◌∙◌, subst, inl, arith}
+use Rattle.std.proofs.Common.{◌≡◌, ◌+◌, ◌-◌, ◌<◌, ◌≤◌, set, sym, ap, ◌∙◌, subst, inl, arith}
 use Rattle.evaluate.specs.Meanings.{meanings}
 use Rattle.property.specs.Trees.{reading_at}
 use Rattle.parts.specs.Tables.{entry_at, Spacious, FilledBehind}

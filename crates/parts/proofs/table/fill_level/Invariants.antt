@@ -1,4 +1,4 @@
-use Rattle.std.proofs.Common.{◌≡◌, ℕ, ◌+◌, ◌-◌, ◌<◌, ◌≤◌, List, length}
+use Rattle.std.proofs.Common.{◌≡◌, ℕ, ◌+◌, ◌-◌, ◌<◌, List, length}
 use Rattle.truth.specs.Forms.{Answers}
 use Rattle.evaluate.specs.Meanings.{meanings}
 use Rattle.parts.specs.Tables.{LevelIn, FilledBehind, KeptBesideLevel}

@@ -1,10 +1,10 @@
-use Rattle.std.proofs.Common.{◌≡◌, ℕ, suc, ◌+◌, ◌-◌, ◌<◌, ◌≤◌, get_or, sym, ap, ◌∙◌, arith}
+use Rattle.std.proofs.Common.{◌≡◌, suc, ◌-◌, ◌<◌, get_or, sym, ap, ◌∙◌, arith}
 use mathlib.Core.Path.{fun_ext}
 use Rattle.evaluate.specs.Meanings.{meanings}
 use Rattle.evaluate.proofs.Chains.{atoms_are}
 use Rattle.property.specs.declared.records.Formula.TheVariants.{Atom, Not, All, Following}
 use Rattle.property.specs.Paths.{formula_at}
-use Rattle.property.specs.Trees.{Property, following, reading_at}
+use Rattle.property.specs.Trees.{following, reading_at}
 use Rattle.property.specs.Typed.{unused}
 use Rattle.property.proofs.Links.{formula_leads, some_operand}
 use Rattle.property.proofs.Standing.{whole_by}

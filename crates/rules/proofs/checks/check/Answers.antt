@@ -1,5 +1,4 @@
-use Rattle.std.proofs.Common.{◌≡◌, sym, ◌∙◌}
-use Rattle.rules.specs.Files.{held}
+use Rattle.std.proofs.Common.{sym, ◌∙◌}
 use Rattle.rules.proofs.Firsts.{verdict_ok}
 use Rattle.rules.proofs.Passed.{passed_linked}
 use Rattle.rules.proofs.checks.check.Goals as goal

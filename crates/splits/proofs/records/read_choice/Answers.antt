@@ -1,4 +1,4 @@
-use Rattle.std.proofs.Common.{arith, rules}
+use Rattle.std.proofs.Common.{arith}
 use Rattle.splits.specs.Shapes.{inputs}
 use Rattle.splits.proofs.Counts.{choice_low}
 use Rattle.splits.proofs.records.read_choice.Goals as goal

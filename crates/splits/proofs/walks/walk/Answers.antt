@@ -1,11 +1,11 @@
-use Rattle.std.proofs.Common.{◌≡◌, ◌+◌, ◌-◌, ◌<◌, ◌≤◌, Bool, true, false, length, get_or, Some, None, Ok, Err, sym, refl, ap, ◌∙◌, subst, arith, rules}
+use Rattle.std.proofs.Common.{◌+◌, ◌-◌, ◌<◌, ◌≤◌, true, false, get_or, Some, None, sym, refl, ap, ◌∙◌, subst, arith}
 use Rattle.std.proofs.lemmas.Result.{err_from_is_err_and}
 use Rattle.std.proofs.lemmas.Bool.{eq-eqb, ne_eqb, false≢true}
 use Rattle.splits.specs.Shapes.{inputs}
 use Rattle.splits.proofs.Stacks.{none}
 use Rattle.splits.proofs.Counts.{branch_some, branch_few}
 use Rattle.splits.proofs.Shapings.{proper}
-use Rattle.splits.proofs.Readings.{told, fault_told, is_record}
+use Rattle.splits.proofs.Readings.{told, fault_told}
 use Rattle.splits.proofs.Walkings.{walking_starts, walking_past, walking_fault, walking_open, walking_close, walking_room, walking_split, walking_top, walking_wrong, walking_next, walking_pop, split_open}
 use Rattle.splits.proofs.walks.walk.Goals as goal
 

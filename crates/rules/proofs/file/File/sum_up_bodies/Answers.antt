@@ -1,4 +1,4 @@
-use Rattle.std.proofs.Common.{◌≡◌, ◌+◌, ◌-◌, ◌<◌, ◌≤◌, ◌⊎◌, get_or, sym, ap, ◌∙◌, ap₂, inl, inr, arith}
+use Rattle.std.proofs.Common.{◌≡◌, ◌+◌, ◌-◌, ◌<◌, ◌≤◌, get_or, sym, ap, ◌∙◌, ap₂, arith}
 use Rattle.rules.specs.Files.{held}
 use Rattle.rules.specs.Summaries.{empty, joined, literal_summary}
 use Rattle.rules.proofs.Downs.{down_read, down_step}

@@ -2,7 +2,7 @@ use Rattle.std.proofs.Common.{◌≡◌, ◌+◌, ◌-◌, ◌<◌, ◌≤◌, g
 use Rattle.rules.specs.Files.{held}
 use Rattle.rules.specs.Summaries.{empty, joined}
 use Rattle.rules.proofs.Downs.{down_read, down_step}
-use Rattle.rules.proofs.Sums.{body_from, head_from, head_from_none, head_from_step}
+use Rattle.rules.proofs.Sums.{head_from, head_from_none, head_from_step}
 use Rattle.rules.proofs.file.File.sum_up_rules.Goals as goal
 
 pub loop-i-preserved : goal.loop-i-preserved
