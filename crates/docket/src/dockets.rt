@@ -1,5 +1,5 @@
 ghost use Rattle.std.specs.Prelude.{◌≡◌, ◌≤◌, map, length, take};
-ghost use Rattle.std.specs.List.{AllByRecursion as All};
+ghost use Rattle.std.specs.List.{AllByRecursion};
 ghost use Rattle.evaluate.specs.Index.{SortedBy};
 ghost use Rattle.property.specs.Reads.{records_of};
 ghost use Rattle.docket.specs.Texts.{text_records};
@@ -28,6 +28,6 @@ pub struct Docket {
     ghost pages: { length texts ≡ 16 },
     ghost few: { count ≤ 16 },
     ghost said: { ∥ map records_of (take count properties) ≡ map text_records (take count texts) ∥₁ },
-    ghost fitting: { ∥ All (Fitting rules) (take count properties) ∥₁ },
-    ghost holding: { ∥ All (Holding rules) (take count properties) ∥₁ },
+    ghost fitting: { ∥ AllByRecursion (Fitting rules) (take count properties) ∥₁ },
+    ghost holding: { ∥ AllByRecursion (Holding rules) (take count properties) ∥₁ },
 }

@@ -1,6 +1,6 @@
 -- A relation that the operations keep, the value of a part keeps; it reads still atoms, and does atoms below the horizon.
 use Rattle.std.proofs.Common.{◌≡◌, ℕ, zero, suc, ◌+◌, ◌-◌, ◌<◌, ◌≤◌, Bool, true, false, cond, ltb, List, [], ◌∷◌, filter, sym, refl, ap, ◌∙◌, subst₂, inl, inr, arith}
-use Rattle.std.specs.List.{range_with_len, AllByRecursion as All}
+use Rattle.std.specs.List.{range_with_len, AllByRecursion}
 use Rattle.std.proofs.lemmas.Bool.{cases_lt, cond-true, cond-false, lt-ltb, le-ltb}
 use Rattle.rules.specs.declared.opened.Rules.{Rules}
 use Rattle.rules.specs.declared.records.Mark.{Mark}
@@ -30,11 +30,11 @@ not_dependent Initial h = refl
 pub still_place : (R : Rules) (a : ℕ) → StillAtom R a → still R (a - 1) ≡ true
 still_place R a h = not_dependent (atom_at R (a - 1)).mark h.2
 
-kept_if : {X : Type 0} (P : X → Type 0) (b : Bool) (x : X) (xs : List X) → P x → All P xs → All P (cond b (x ∷ xs) xs)
+kept_if : {X : Type 0} (P : X → Type 0) (b : Bool) (x : X) (xs : List X) → P x → AllByRecursion P xs → AllByRecursion P (cond b (x ∷ xs) xs)
 kept_if P true x xs h hs = (h, hs)
 kept_if P false x xs h hs = hs
 
-pub all_kept : {X : Type 0} (P : X → Type 0) (test : X → Bool) (xs : List X) → All P xs → All P (filter test xs)
+pub all_kept : {X : Type 0} (P : X → Type 0) (test : X → Bool) (xs : List X) → AllByRecursion P xs → AllByRecursion P (filter test xs)
 all_kept P test [] h = tt
 all_kept P test (x ∷ xs) h = kept_if P (test x) x (filter test xs) h.0 (all_kept P test xs h.1)
 
@@ -75,12 +75,12 @@ module _ {V W : Type 0} (o : Ops V) (q : Ops W) (S : V → W → Type 0) (k : Ke
         legality_alike left (level + 1) (omega arith) _ _ _ _
         (k.and_kept v _ w _ r (k.or_kept _ (every_move o R L level) _ (every_move q R M level) t (moves_alike level (omega arith) (range_with_len 0 (choices R)) _ _ k.yes_kept))) t
 
-    each_alike : (qs : List Property) → All (StillIn R) qs → (v : V) (w : W) → S v w → S (each_value o R L v qs H) (each_value q R M w qs H)
+    each_alike : (qs : List Property) → AllByRecursion (StillIn R) qs → (v : V) (w : W) → S v w → S (each_value o R L v qs H) (each_value q R M w qs H)
     each_alike [] h v w r = r
     each_alike (p ∷ qs) h v w r =
         each_alike qs h.1 _ _ (k.and_kept v (value o R L p 0 H) w (value q R M p 0 H) r (value_alike p h.0 0 H (omega arith)))
 
-    pub broken_alike : (part : Part) (qs : List Property) (p : Property) → All (StillIn R) qs → StillIn R p → S (broken o R L part qs p H) (broken q R M part qs p H)
+    pub broken_alike : (part : Part) (qs : List Property) (p : Property) → AllByRecursion (StillIn R) qs → StillIn R p → S (broken o R L part qs p H) (broken q R M part qs p H)
     broken_alike Base qs p hs h =
         let l = legality_alike H 0 (omega arith) _ _ _ _ k.yes_kept k.no_kept in
         k.and_kept _ _ _ _ (k.and_kept _ (legality o R L H) _ (legality q R M H) k.yes_kept l) (n _ _ (value_alike p h 0 H (omega arith)))
@@ -128,7 +128,7 @@ module _ {V W : Type 0} (o : Ops V) (q : Ops W) (S : V → W → Type 0) (k : Ke
   }
 
 -- the whole
-module _ {V W : Type 0} (o : Ops V) (q : Ops W) (S : V → W → Type 0) (k : Keeps o q S) (n : (v : V) (w : W) → S v w → S (o.not' v) (q.not' w)) (R : Rules) (start : ℕ → V) (doing : ℕ → ℕ → V) (s : ℕ → W) (d : ℕ → ℕ → W) (part : Part) (docket : List Property) (p : Property) (hs : All (StillIn R) docket) (h : StillIn R p) where
+module _ {V W : Type 0} (o : Ops V) (q : Ops W) (S : V → W → Type 0) (k : Keeps o q S) (n : (v : V) (w : W) → S v w → S (o.not' v) (q.not' w)) (R : Rules) (start : ℕ → V) (doing : ℕ → ℕ → V) (s : ℕ → W) (d : ℕ → ℕ → W) (part : Part) (docket : List Property) (p : Property) (hs : AllByRecursion (StillIn R) docket) (h : StillIn R p) where
   pub part_alike : ((f : ℕ) → f < fluents R → S (start f) (s f)) → ((j c : ℕ) → j < horizon_of part (degree p) → c < choices R → S (doing j c) (d j c))
       → S (part_value o R (at_level o R start doing) part docket p) (part_value q R (at_level q R s d) part docket p)
   part_alike starts moves =

@@ -1,6 +1,6 @@
 -- Over yes and no, the value of a part on the levels of a play is the play's mark.
 use Rattle.std.proofs.Common.{◌≡◌, ℕ, zero, suc, ◌+◌, ◌-◌, ◌<◌, ◌≤◌, Bool, true, false, cond, not, ◌&&◌, ◌||◌, eqb, ltb, leb, List, [], ◌∷◌, length, sym, refl, ap, ◌∙◌, subst, ap₂, inl, inr, add-one, arith}
-use Rattle.std.specs.List.{range_with_len, AllByRecursion as All}
+use Rattle.std.specs.List.{range_with_len, AllByRecursion}
 use Rattle.std.proofs.lemmas.Bool.{cases_lt, cases_eq, both_ways, and_parts, and_from, cond-true, cond-false, lt-ltb, le-ltb, eq-eqb, eqb-true, leb-true}
 use Rattle.rules.specs.declared.opened.Rules.{Rules}
 use Rattle.rules.specs.Opens.{atoms_of, moves_of}
@@ -180,13 +180,13 @@ module _ (R : Rules) (G : Game Position (Joint (moves_of R))) (reads : ReadsStan
           all_reads ps h.1 _ μ S level r ∙ ap (λ b. (v && b) && all_satisfied G' ps S (run G' S μ)) (value_reads p h.0 μ S level r)
           ∙ and_assoc v (satisfied G' p S (run G' S μ)) (all_satisfied G' ps S (run G' S μ))
 
-    each_reads : (qs : List Property) → All (StillIn R) qs → (v : Bool) (μ : List J) (S : Position) → Runs L 0 S μ → each_value bool_ops R L v qs (length μ) ≡ v && each_satisfied G' qs S (run G' S μ)
+    each_reads : (qs : List Property) → AllByRecursion (StillIn R) qs → (v : Bool) (μ : List J) (S : Position) → Runs L 0 S μ → each_value bool_ops R L v qs (length μ) ≡ v && each_satisfied G' qs S (run G' S μ)
     each_reads [] h v μ S r = and_true v
     each_reads (p ∷ qs) h v μ S r =
         each_reads qs h.1 _ μ S r ∙ ap (λ b. (v && b) && each_satisfied G' qs S (run G' S μ)) (value_reads p h.0 μ S 0 r)
         ∙ and_assoc v (satisfied G' p S (run G' S μ)) (each_satisfied G' qs S (run G' S μ))
 
-    broken_reads : (part : Part) (qs : List Property) (p : Property) → All (StillIn R) qs → StillIn R p → (μ : List J) (S : Position) → Runs L 0 S μ
+    broken_reads : (part : Part) (qs : List Property) (p : Property) → AllByRecursion (StillIn R) qs → StillIn R p → (μ : List J) (S : Position) → Runs L 0 S μ
         → broken bool_ops R L part qs p (length μ) ≡ run_legal G' S μ && shown G' part qs p S (run G' S μ)
     broken_reads Base qs p hs h μ S r = ap₂ (λ a b. a && not b) (legality_reads μ true false S 0 r) (value_reads p h μ S 0 r)
     broken_reads Step qs p hs h μ S r =

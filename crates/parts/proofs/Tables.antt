@@ -1,6 +1,6 @@
 -- The records of a property, as the table takes them; and the docket, a property at a time.
 use Rattle.std.proofs.Common.{◌≡◌, ℕ, zero, suc, ◌+◌, ◌<◌, ◌≤◌, Bool, true, false, List, [], ◌∷◌, map, length, get_or, drop, filter, sym, ap, ◌∙◌, arith}
-use Rattle.std.specs.List.{AllByRecursion as All}
+use Rattle.std.specs.List.{AllByRecursion}
 use Rattle.std.proofs.lemmas.List.{length-take, drop_more, drop_all}
 use Rattle.std.proofs.lemmas.Bool.{cond-true, cond-false}
 use Rattle.rules.specs.declared.opened.Rules.{Rules}
@@ -18,7 +18,7 @@ pub few_records : (p : Property) → length (records_of p) ≤ 64
 few_records p = omega (arith, length-take p.count p.records, p.few)
 
 -- what holds of each holds of the one at a place
-pub all_at : {X : Type 0} (P : X → Type 0) (xs : List X) (i : ℕ) (d : X) → i < length xs → All P xs → P (get_or xs i d)
+pub all_at : {X : Type 0} (P : X → Type 0) (xs : List X) (i : ℕ) (d : X) → i < length xs → AllByRecursion P xs → P (get_or xs i d)
 all_at P [] i d h a = absurd (omega arith)
 all_at P (x ∷ xs) zero d h a = a.0
 all_at P (x ∷ xs) (suc i) d h a = all_at P xs i d (omega arith) a.1

@@ -1,6 +1,6 @@
 -- What holds of the value of a part: over any values, over the meanings of a form, and over yes and no.
 use Rattle.std.specs.Prelude.{◌≡◌, ℕ, ◌<◌, Bool, true, ◌↔◌, List, length}
-use Rattle.std.specs.List.{AllByRecursion as All}
+use Rattle.std.specs.List.{AllByRecursion}
 use Rattle.truth.specs.Forms.{only_no, Meaning, Allows, SettledEverywhere}
 use Rattle.rules.specs.declared.opened.Rules.{Rules}
 use Rattle.rules.specs.Opens.{moves_of}
@@ -25,7 +25,7 @@ RecordsAreStill = (R : Rules) (rs : List Record) → Fits R rs → StillIn R (pr
 abbrev pub ValuesAreMarks : Type 0
 ValuesAreMarks =
     (R : Rules) (G : Game Position (Joint (moves_of R))) → ReadsStandardModel R G
-    → (part : Part) (docket : List Property) (p : Property) → All (StillIn R) docket → StillIn R p
+    → (part : Part) (docket : List Property) (p : Property) → AllByRecursion (StillIn R) docket → StillIn R p
     → (play : Play Position (Joint (moves_of R))) → length play.joints ≡ horizon_of part (degree p)
     → part_value bool_ops R (played R play) part docket p ≡ marked (by_number G) part docket p play
 
@@ -33,7 +33,7 @@ ValuesAreMarks =
 abbrev pub ValuesShowBreaks : Type 0
 ValuesShowBreaks =
     (R : Rules) (G : Game Position (Joint (moves_of R))) → ReadsStandardModel R G
-    → (part : Part) (docket : List Property) (p : Property) → All (StillIn R) docket → StillIn R p
+    → (part : Part) (docket : List Property) (p : Property) → AllByRecursion (StillIn R) docket → StillIn R p
     → (play : Play Position (Joint (moves_of R))) → PlayOf (by_number G) part p play
     → Breaks (by_number G) part docket p play ↔ (part_value bool_ops R (played R play) part docket p ≡ true)
 
@@ -41,7 +41,7 @@ ValuesShowBreaks =
 abbrev pub LastMovesDoNotMatter : {V : Type 0} → Ops V → Type 0
 LastMovesDoNotMatter {V} o =
     (R : Rules) (start : ℕ → V) (doing other : ℕ → ℕ → V) (part : Part) (docket : List Property) (p : Property)
-    → All (StillIn R) docket → StillIn R p
+    → AllByRecursion (StillIn R) docket → StillIn R p
     → ((j c : ℕ) → j < horizon_of part (degree p) → c < choices R → doing j c ≡ other j c)
     → part_value o R (at_level o R start doing) part docket p ≡ part_value o R (at_level o R start other) part docket p
 
@@ -64,7 +64,7 @@ module _ {World : Type 0} (o : Ops (Meaning World)) where
   abbrev pub PartsAreSound : Type 0
   PartsAreSound =
       (R : Rules) (w : World) (start : ℕ → Meaning World) (doing : ℕ → ℕ → Meaning World) (s : ℕ → Bool) (d : ℕ → ℕ → Bool)
-      → (part : Part) (docket : List Property) (p : Property) → All (StillIn R) docket → StillIn R p
+      → (part : Part) (docket : List Property) (p : Property) → AllByRecursion (StillIn R) docket → StillIn R p
       → InputsAllow R (horizon_of part (degree p)) w start doing s d
       → Allows (part_value o R (at_level o R start doing) part docket p w) (part_value bool_ops R (at_level bool_ops R s d) part docket p)
 
@@ -72,7 +72,7 @@ module _ {World : Type 0} (o : Ops (Meaning World)) where
   abbrev pub PartsAreSettled : Type 0
   PartsAreSettled =
       (R : Rules) (start : ℕ → Meaning World) (doing : ℕ → ℕ → Meaning World)
-      → (part : Part) (docket : List Property) (p : Property) → All (StillIn R) docket → StillIn R p
+      → (part : Part) (docket : List Property) (p : Property) → AllByRecursion (StillIn R) docket → StillIn R p
       → InputsSettled R (horizon_of part (degree p)) start doing
       → SettledEverywhere (part_value o R (at_level o R start doing) part docket p)
 
@@ -81,7 +81,7 @@ module _ {World : Type 0} (o : Ops (Meaning World)) where
   MarksAreAllowed =
       (R : Rules) (G : Game Position (Joint (moves_of R))) → ReadsStandardModel R G
       → (w : World) (start : ℕ → Meaning World) (doing : ℕ → ℕ → Meaning World)
-      → (part : Part) (docket : List Property) (p : Property) → All (StillIn R) docket → StillIn R p
+      → (part : Part) (docket : List Property) (p : Property) → AllByRecursion (StillIn R) docket → StillIn R p
       → (play : Play Position (Joint (moves_of R))) → length play.joints ≡ horizon_of part (degree p)
       → AllowPlay R (horizon_of part (degree p)) w start doing play
       → Allows (part_value o R (at_level o R start doing) part docket p w) (marked (by_number G) part docket p play)
@@ -91,7 +91,7 @@ module _ {World : Type 0} (o : Ops (Meaning World)) where
   MarksAreExact =
       (R : Rules) (G : Game Position (Joint (moves_of R))) → ReadsStandardModel R G
       → (w : World) (start : ℕ → Meaning World) (doing : ℕ → ℕ → Meaning World)
-      → (part : Part) (docket : List Property) (p : Property) → All (StillIn R) docket → StillIn R p
+      → (part : Part) (docket : List Property) (p : Property) → AllByRecursion (StillIn R) docket → StillIn R p
       → (play : Play Position (Joint (moves_of R))) → length play.joints ≡ horizon_of part (degree p)
       → AllowPlay R (horizon_of part (degree p)) w start doing play → InputsSettled R (horizon_of part (degree p)) start doing
       → part_value o R (at_level o R start doing) part docket p w ≡ just (marked (by_number G) part docket p play)
@@ -101,7 +101,7 @@ module _ {World : Type 0} (o : Ops (Meaning World)) where
   ClosedMeansUnbroken =
       (R : Rules) (G : Game Position (Joint (moves_of R))) → ReadsStandardModel R G
       → (w : World) (start : ℕ → Meaning World) (doing : ℕ → ℕ → Meaning World)
-      → (part : Part) (docket : List Property) (p : Property) → All (StillIn R) docket → StillIn R p
+      → (part : Part) (docket : List Property) (p : Property) → AllByRecursion (StillIn R) docket → StillIn R p
       → part_value o R (at_level o R start doing) part docket p w ≡ only_no
       → (play : Play Position (Joint (moves_of R))) → AllowPlay R (horizon_of part (degree p)) w start doing play
       → ¬ Breaks (by_number G) part docket p play

@@ -1,5 +1,5 @@
 ghost use Rattle.std.specs.Prelude.{◌≡◌, ℕ, ◌+◌, ◌<◌, ◌≤◌, List, [], map, length, filter, slice_index_or};
-ghost use Rattle.std.specs.List.{AllByRecursion as All};
+ghost use Rattle.std.specs.List.{AllByRecursion};
 ghost use Rattle.truth.specs.Forms.{Answers};
 ghost use Rattle.evaluate.specs.Evaluate.{look};
 ghost use Rattle.evaluate.specs.Grids.{row as row_of};
@@ -43,7 +43,7 @@ pub fn property_value<T: TruthForm>(
     entry(grid, 0, 1)
 }
 
-// All of a value and of those properties that the step of one of this degree assumes, at level 0.
+// AllByRecursion of a value and of those properties that the step of one of this degree assumes, at level 0.
 fn and_assumed<T: TruthForm>(
     grid: &mut Grid<'_, T>,
     rules: &Rules,
@@ -52,7 +52,7 @@ fn and_assumed<T: TruthForm>(
     horizon: usize,
     first: T,
 ) -> T
-    requires fits { All (λ (q : Property). Fits rules.now (records_of q)) docket.now }
+    requires fits { AllByRecursion (λ (q : Property). Fits rules.now (records_of q)) docket.now }
     requires horizon { horizon < 5 }
     requires room { Spacious grid.old.values.now }
     ensures value { (L : ℕ → List (T.World → Answers)) → LevelsIn T.means rules.now grid.old.values.now L horizon → T.means result ≡ each_value (meanings T.neg T.conj T.disj) rules.now L (T.means first) (filter (λ q. may_assume degree (degree_of q)) (map tree_of docket.now)) horizon }
@@ -70,7 +70,7 @@ fn and_assumed<T: TruthForm>(
     all
 }
 
-// All of: the moves are legal, the property is not satisfied.
+// AllByRecursion of: the moves are legal, the property is not satisfied.
 fn base_value<T: TruthForm>(grid: &mut Grid<'_, T>, rules: &Rules, property: &Property) -> T
     requires fits { Fits rules.now (records_of property.now) }
     requires room { Spacious grid.old.values.now }
@@ -85,7 +85,7 @@ fn base_value<T: TruthForm>(grid: &mut Grid<'_, T>, rules: &Rules, property: &Pr
     T::yes().and(legal).and(holds.not())
 }
 
-// All of: the moves are legal, the property and each assumed one is satisfied, following-the-property is not.
+// AllByRecursion of: the moves are legal, the property and each assumed one is satisfied, following-the-property is not.
 fn step_value<T: TruthForm>(
     grid: &mut Grid<'_, T>,
     rules: &Rules,
@@ -93,7 +93,7 @@ fn step_value<T: TruthForm>(
     docket: &[Property],
 ) -> T
     requires fits { Fits rules.now (records_of property.now) }
-    requires all { All (λ (q : Property). Fits rules.now (records_of q)) docket.now }
+    requires all { AllByRecursion (λ (q : Property). Fits rules.now (records_of q)) docket.now }
     requires room { Spacious grid.old.values.now }
     ensures value { (L : ℕ → List (T.World → Answers)) → LevelsIn T.means rules.now grid.old.values.now L (degree_of (tree_of property.now) + 1) → T.means result ≡ part_value_of (meanings T.neg T.conj T.disj) rules.now L Step (map tree_of docket.now) (tree_of property.now) }
     ensures kept { KeptBesideTable grid.old.values.now grid.new.values.now }
@@ -119,7 +119,7 @@ pub fn part_value<T: TruthForm>(
     docket: &[Property],
 ) -> T
     requires fits { Fits rules.now (records_of property.now) }
-    requires all { All (λ (q : Property). Fits rules.now (records_of q)) docket.now }
+    requires all { AllByRecursion (λ (q : Property). Fits rules.now (records_of q)) docket.now }
     requires room { Spacious grid.old.values.now }
     ensures value { (L : ℕ → List (T.World → Answers)) → LevelsIn T.means rules.now grid.old.values.now L (horizon_of part (degree_of (tree_of property.now))) → T.means result ≡ part_value_of (meanings T.neg T.conj T.disj) rules.now L part (map tree_of docket.now) (tree_of property.now) }
     ensures kept { KeptBesideTable grid.old.values.now grid.new.values.now }
@@ -142,7 +142,7 @@ pub fn evaluate_part<T: TruthForm>(
     docket: &[Property],
 ) -> T
     requires fits { Fits (indexed_rules rules) (records_of property.now) }
-    requires all { All (λ (q : Property). Fits (indexed_rules rules) (records_of q)) docket.now }
+    requires all { AllByRecursion (λ (q : Property). Fits (indexed_rules rules) (records_of q)) docket.now }
     requires room { Spacious grid.old.values.now }
     ensures value { T.means result ≡ part_value_of (meanings T.neg T.conj T.disj) (indexed_rules rules.entry) (at_level (meanings T.neg T.conj T.disj) (indexed_rules rules.entry) (look (meanings T.neg T.conj T.disj) (map T.means (row_of (size rules.entry) grid.old.values.now 0))) (λ j c. look (meanings T.neg T.conj T.disj) (map T.means (row_of (size rules.entry) grid.old.values.now j)) (does_at (indexed_rules rules.entry) c))) part (map tree_of docket.now) (tree_of property.now) }
     ensures kept { (i : ℕ) (d : T) → table_end ≤ i → slice_index_or grid.new.values.now i d ≡ slice_index_or grid.old.values.now i d }

@@ -1,6 +1,6 @@
 -- A property whose base and step hold is true everywhere.
 use Rattle.std.proofs.Common.{◌≡◌, ◌+◌, ◌≤◌, true, false, List, [], ◌∷◌, refl, subst, inl, inr, arith}
-use Rattle.std.specs.List.{AllByRecursion as All}
+use Rattle.std.specs.List.{AllByRecursion}
 use Rattle.std.proofs.lemmas.Bool.{cases_Bool, leb-true, leb-false}
 use Rattle.std.proofs.ByRecursion.{All-push, All-weaker}
 use Rattle.evaluate.specs.Positions.{Game}
@@ -14,7 +14,7 @@ use Rattle.play.proofs.Prefixes.{complete_on, longer_sequences_satisfy}
 use Rattle.play.proofs.Parts.{StepsFrom, base_true, true_base, step_true}
 
 -- what holds of each assumed property, said of the docket, and back
-pub all_assumed : (P : Property → Type 0) (p : Property) (docket : List Property) → All (λ q. degree q ≤ degree p + 1 → P q) docket → All P (assumed p docket)
+pub all_assumed : (P : Property → Type 0) (p : Property) (docket : List Property) → AllByRecursion (λ q. degree q ≤ degree p + 1 → P q) docket → AllByRecursion P (assumed p docket)
 all_assumed P p [] h = tt
 all_assumed P p (q ∷ docket) h =
     elim (cases_Bool (may_assume (degree p) (degree q))) [
@@ -22,29 +22,29 @@ all_assumed P p (q ∷ docket) h =
       | inr e ↦ rw e (all_assumed P p docket h.1)
     ]
 
-pub assumed_all : (P : Property → Type 0) (p : Property) (docket : List Property) → All P (assumed p docket) → All (λ q. degree q ≤ degree p + 1 → P q) docket
+pub assumed_all : (P : Property → Type 0) (p : Property) (docket : List Property) → AllByRecursion P (assumed p docket) → AllByRecursion (λ q. degree q ≤ degree p + 1 → P q) docket
 assumed_all P p [] h = tt
 assumed_all P p (q ∷ docket) h =
     elim (cases_Bool (may_assume (degree p) (degree q))) [
-      | inl e ↦ let k : P q × All P (assumed p docket) = rw e at h in (λ _. k.0, assumed_all P p docket k.1)
-      | inr e ↦ let k : All P (assumed p docket) = rw e at h in (λ l. absurd (omega (arith, leb-false (degree q) (degree p + 1) e)), assumed_all P p docket k)
+      | inl e ↦ let k : P q × AllByRecursion P (assumed p docket) = rw e at h in (λ _. k.0, assumed_all P p docket k.1)
+      | inr e ↦ let k : AllByRecursion P (assumed p docket) = rw e at h in (λ l. absurd (omega (arith, leb-false (degree q) (degree p + 1) e)), assumed_all P p docket k)
     ]
 
 -- each assumed property has a degree of at most n + 1
-pub assumed_shallow : (p : Property) (docket : List Property) → All (λ q. degree q ≤ degree p + 1) (assumed p docket)
+pub assumed_shallow : (p : Property) (docket : List Property) → AllByRecursion (λ q. degree q ≤ degree p + 1) (assumed p docket)
 assumed_shallow p docket = all_assumed (λ q. degree q ≤ degree p + 1) p docket (all_of docket)
   where
-    all_of : (qs : List Property) → All (λ q. degree q ≤ degree p + 1 → degree q ≤ degree p + 1) qs
+    all_of : (qs : List Property) → AllByRecursion (λ q. degree q ≤ degree p + 1 → degree q ≤ degree p + 1) qs
     all_of [] = tt
     all_of (q ∷ qs) = (λ h. h, all_of qs)
 
-both_of : {X : Type 0} (P Q : X → Type 0) (xs : List X) → All P xs → All Q xs → All (λ x. P x × Q x) xs
+both_of : {X : Type 0} (P Q : X → Type 0) (xs : List X) → AllByRecursion P xs → AllByRecursion Q xs → AllByRecursion (λ x. P x × Q x) xs
 both_of P Q [] h k = tt
 both_of P Q (x ∷ xs) h k = ((h.0, k.0), both_of P Q xs h.1 k.1)
 
-module _ {Pos Joint : Type 0} (G : Game Pos Joint) (qs : List Property) (p : Property) (shallow : All (λ q. degree q ≤ degree p + 1) qs) where
+module _ {Pos Joint : Type 0} (G : Game Pos Joint) (qs : List Property) (p : Property) (shallow : AllByRecursion (λ q. degree q ≤ degree p + 1) qs) where
   -- one legal move on
-  true_next : {S : Pos} → StepsFrom G qs p S → All (λ q. TrueAt G q S) qs → TrueAt G p S → (A : Joint) → ended G S ≡ false → G.legal S A ≡ true → TrueAt G p (G.next S A)
+  true_next : {S : Pos} → StepsFrom G qs p S → AllByRecursion (λ q. TrueAt G q S) qs → TrueAt G p S → (A : Joint) → ended G S ≡ false → G.legal S A ≡ true → TrueAt G p (G.next S A)
   true_next {S} steps beside here A t l τ c =
       let σ : Sequence G S = move A t l τ in
       let d : Complete G (degree p + 1) σ = complete_on G A t l τ (degree p) (degree p + 1) refl c in
@@ -54,7 +54,7 @@ module _ {Pos Joint : Type 0} (G : Game Pos Joint) (qs : List Property) (p : Pro
       (both_of (λ q. degree q ≤ degree p + 1) (λ q. TrueAt G q S) qs shallow beside))
 
   -- along a sequence
-  true_along : {S : Pos} (σ : Sequence G S) → ((τ : Sequence G S) → StepsFrom G qs p (reached G τ)) → All (λ q. (τ : Sequence G S) → TrueAt G q (reached G τ)) qs → TrueAt G p S → TrueAt G p (reached G σ)
+  true_along : {S : Pos} (σ : Sequence G S) → ((τ : Sequence G S) → StepsFrom G qs p (reached G τ)) → AllByRecursion (λ q. (τ : Sequence G S) → TrueAt G q (reached G τ)) qs → TrueAt G p S → TrueAt G p (reached G σ)
   true_along stop steps beside here = here
   true_along {S} (move A t l σ) steps beside here =
       true_along σ (λ τ. steps (move A t l τ))
@@ -62,7 +62,7 @@ module _ {Pos Joint : Type 0} (G : Game Pos Joint) (qs : List Property) (p : Pro
       (true_next (steps stop) (All-weaker (λ q. (τ : Sequence G S) → TrueAt G q (reached G τ)) (λ q. TrueAt G q S) (λ q g. g stop) qs beside) here A t l)
 
   -- It is enough that no play from a reachable position breaks the step.
-  pub induction_from : Joint → All (TrueEverywhere G) qs → HoldsBeside G Base qs p
+  pub induction_from : Joint → AllByRecursion (TrueEverywhere G) qs → HoldsBeside G Base qs p
       → ((S : Pos) (μ : List Joint) → Reachable G S → ¬ BreaksBeside G Step qs p (record { start = S; joints = μ })) → TrueEverywhere G p
   induction_from any beside base step S r =
       subst (TrueAt G p) r.arrives (true_along r.way
@@ -76,14 +76,14 @@ module _ {Pos Joint : Type 0} (G : Game Pos Joint) where
       induction_from G (assumed p docket) p (assumed_shallow p docket) any beside base (λ S μ r. step (record { start = S; joints = μ }))
 
   -- beside a docket of which all is true everywhere
-  pub induction_beside : Joint → (docket : List Property) (p : Property) → All (TrueEverywhere G) docket → Holds G Base docket p → Holds G Step docket p → TrueEverywhere G p
+  pub induction_beside : Joint → (docket : List Property) (p : Property) → AllByRecursion (TrueEverywhere G) docket → Holds G Base docket p → Holds G Step docket p → TrueEverywhere G p
   induction_beside any docket p beside =
       induction any docket p (all_assumed (TrueEverywhere G) p docket (All-weaker (TrueEverywhere G) (λ q. degree q ≤ degree p + 1 → TrueEverywhere G q) (λ q h _. h) docket beside))
 
   pub dockets_are_true : DocketsAreTrue G
   dockets_are_true any docket grown = grown_true grown
     where
-      grown_true : {ds : List Property} → Grown G ds → All (TrueEverywhere G) ds
+      grown_true : {ds : List Property} → Grown G ds → AllByRecursion (TrueEverywhere G) ds
       grown_true empty = tt
       grown_true (added {docket = ds} p g base step) =
           All-push (TrueEverywhere G) ds p (grown_true g) (induction_beside any ds p (grown_true g) base step)

@@ -1,6 +1,6 @@
 -- The mark of a play says whether it breaks the part.
 use Rattle.std.proofs.Common.{◌≡◌, true, not, ◌&&◌, List, [], ◌∷◌, refl}
-use Rattle.std.specs.List.{AllByRecursion as All}
+use Rattle.std.specs.List.{AllByRecursion}
 use Rattle.std.proofs.lemmas.Bool.{and_parts, and_from, not-true, not_from_false}
 use Rattle.evaluate.specs.Positions.{Game}
 use Rattle.property.specs.Trees.{Property, following}
@@ -12,11 +12,11 @@ use Rattle.play.specs.Marks.{each_satisfied, shown, marked}
 use Rattle.play.specs.Claims.{MarksAreRight}
 
 module _ {Pos Joint : Type 0} (G : Game Pos Joint) where
-  each_from : (qs : List Property) (S : Pos) (rest : List Pos) → All (λ q. satisfied G q S rest ≡ true) qs → each_satisfied G qs S rest ≡ true
+  each_from : (qs : List Property) (S : Pos) (rest : List Pos) → AllByRecursion (λ q. satisfied G q S rest ≡ true) qs → each_satisfied G qs S rest ≡ true
   each_from [] S rest h = refl
   each_from (q ∷ qs) S rest h = and_from (satisfied G q S rest) (each_satisfied G qs S rest) h.0 (each_from qs S rest h.1)
 
-  from_each : (qs : List Property) (S : Pos) (rest : List Pos) → each_satisfied G qs S rest ≡ true → All (λ q. satisfied G q S rest ≡ true) qs
+  from_each : (qs : List Property) (S : Pos) (rest : List Pos) → each_satisfied G qs S rest ≡ true → AllByRecursion (λ q. satisfied G q S rest ≡ true) qs
   from_each [] S rest h = tt
   from_each (q ∷ qs) S rest h =
       let k = and_parts (satisfied G q S rest) (each_satisfied G qs S rest) h in (k.0, from_each qs S rest k.1)

@@ -1,6 +1,6 @@
 -- What base and step say of sequences.
 use Rattle.std.proofs.Common.{◌≡◌, ◌+◌, true, false, List, refl, subst, inl, inr}
-use Rattle.std.specs.List.{AllByRecursion as All}
+use Rattle.std.specs.List.{AllByRecursion}
 use Rattle.std.proofs.lemmas.Bool.{cases_Bool, both_ways}
 use Rattle.evaluate.specs.Positions.{Game}
 use Rattle.property.specs.Trees.{Property, following, degree}
@@ -16,7 +16,7 @@ module _ {Pos Joint : Type 0} (G : Game Pos Joint) where
   abbrev pub StepsFrom : List Property → Property → Pos → Type 0
   StepsFrom qs p S =
       (σ : Sequence G S) → Complete G (degree p + 1) σ → satisfied G p S (behind G σ) ≡ true
-      → All (λ q. satisfied G q S (behind G σ) ≡ true) qs → satisfied G (following p) S (behind G σ) ≡ true
+      → AllByRecursion (λ q. satisfied G q S (behind G σ) ≡ true) qs → satisfied G (following p) S (behind G σ) ≡ true
 
   pub base_true : Joint → (qs : List Property) (p : Property) → HoldsBeside G Base qs p → TrueAt G p G.initial
   base_true any qs p base σ c =

@@ -1,6 +1,6 @@
 -- The theorems, of any game. A joint move as a premise says only that there is one: without any there are no plays to look at.
 use Rattle.std.specs.Prelude.{◌≡◌, ℕ, ◌+◌, ◌<◌, ◌≤◌, true, false, ◌↔◌, List, [], take}
-use Rattle.std.specs.List.{AllByRecursion as All}
+use Rattle.std.specs.List.{AllByRecursion}
 use Rattle.evaluate.specs.Positions.{Game}
 use Rattle.property.specs.Trees.{Property, isn't, following, degree}
 use Rattle.play.specs.declared.part.Part.{Part}
@@ -14,12 +14,12 @@ module _ {Pos Joint : Type 0} (G : Game Pos Joint) where
   -- A property whose base and step hold, beside assumed properties that are true everywhere, is true everywhere.
   abbrev pub Induction : Type 0
   Induction =
-      Joint → (docket : List Property) (p : Property) → All (TrueEverywhere G) (assumed p docket)
+      Joint → (docket : List Property) (p : Property) → AllByRecursion (TrueEverywhere G) (assumed p docket)
       → Holds G Base docket p → Holds G Step docket p → TrueEverywhere G p
 
   -- A docket that grew by properties whose base and step hold has only properties that are true everywhere.
   abbrev pub DocketsAreTrue : Type 0
-  DocketsAreTrue = Joint → (docket : List Property) → Grown G docket → All (TrueEverywhere G) docket
+  DocketsAreTrue = Joint → (docket : List Property) → Grown G docket → AllByRecursion (TrueEverywhere G) docket
 
   -- Only the first d positions behind the first matter to a property of degree at most d.
   abbrev pub PrefixesDecide : Type 0
@@ -46,7 +46,7 @@ module _ {Pos Joint : Type 0} (G : Game Pos Joint) where
   StepSays =
       Joint → (docket : List Property) (p : Property) → Holds G Step docket p
       ↔ ((S : Pos) (σ : Sequence G S) → Complete G (degree p + 1) σ → satisfied G p S (behind G σ) ≡ true
-      → All (λ q. satisfied G q S (behind G σ) ≡ true) (assumed p docket) → satisfied G (following p) S (behind G σ) ≡ true)
+      → AllByRecursion (λ q. satisfied G q S (behind G σ) ≡ true) (assumed p docket) → satisfied G (following p) S (behind G σ) ≡ true)
 
   -- A play of a part breaks it exactly if its mark is true.
   abbrev pub MarksAreRight : Type 0

@@ -1,6 +1,6 @@
 -- Base and step of a property: plays, their runs, and which plays break a part.
 use Rattle.std.specs.Prelude.{◌≡◌, ℕ, ◌+◌, Bool, true, false, cond, ◌&&◌, List, [], ◌∷◌, ◌++◌, length, filter, nat_le}
-use Rattle.std.specs.List.{AllByRecursion as All}
+use Rattle.std.specs.List.{AllByRecursion}
 use Rattle.evaluate.specs.Positions.{Game}
 use Rattle.property.specs.Trees.{Property, following, degree}
 use Rattle.play.specs.declared.part.Part.{Part}
@@ -50,7 +50,7 @@ module _ {Pos Joint : Type 0} (G : Game Pos Joint) where
   abbrev pub Against : Part → List Property → Property → Pos → List Pos → Type 0
   Against Base qs p S rest = satisfied G p S rest ≡ false
   Against Step qs p S rest =
-      (satisfied G p S rest ≡ true) × All (λ q. satisfied G q S rest ≡ true) qs × (satisfied G (following p) S rest ≡ false)
+      (satisfied G p S rest ≡ true) × AllByRecursion (λ q. satisfied G q S rest ≡ true) qs × (satisfied G (following p) S rest ≡ false)
 
   -- with just the properties qs assumed
   pub record BreaksBeside (part : Part) (qs : List Property) (p : Property) (play : Play Pos Joint) : Type 0 where

@@ -1,5 +1,5 @@
 use Rattle.std.proofs.Common.{◌≡◌, ℕ, ◌+◌, ◌*◌, ◌<◌, ◌≤◌, true, ◌&&◌, ltb, List, map, length, get_or, sym, ap, ◌∙◌, subst, arith}
-use Rattle.std.specs.List.{AllByRecursion as All}
+use Rattle.std.specs.List.{AllByRecursion}
 use Rattle.std.proofs.lemmas.List.{get_or-map}
 use Rattle.std.proofs.lemmas.Bool.{lt-ltb}
 use Rattle.truth.specs.Forms.{only_no, Meaning}
@@ -42,7 +42,7 @@ evaluate_part-requires c =
     let D = c.args.docket.now in
     record {
       fits = c.requires.fits;
-      all = subst (λ (l : List Property). All (Fitting D.rules) l) (sym c.properties.ensures) (all_fit D);
+      all = subst (λ (l : List Property). AllByRecursion (Fitting D.rules) l) (sym c.properties.ensures) (all_fit D);
       room = omega arith;
     }
 
