@@ -109,7 +109,7 @@ fn line(rt: &HostRuntime, rules: &Rules, strata: u16) -> io::Result<()> {
         strata: &index,
     };
     let mut three = vec![in heap; Three::Open; VALUES]?;
-    let mut wide = vec![in heap; <Wide as TruthForm>::open(); VALUES]?;
+    let mut wide = vec![in heap; Wide::open(); VALUES]?;
     let one = time::<Three>(rt, indexed, three.as_mut_slice(), 0)?;
     let five = time::<Three>(rt, indexed, three.as_mut_slice(), 4)?;
     let wide_one = time::<Wide>(rt, indexed, wide.as_mut_slice(), 0)?;

@@ -5,6 +5,7 @@ use docket::cases::Case;
 use play::part::Part;
 use std::test::Fail;
 use truth::form::TruthForm;
+use truth::wide::Wide;
 
 // Settings, values and case records; then the number and place of the fault, or 0 and 0.
 const SIZES: [(usize, usize, usize, u8, usize); 6] = [
@@ -25,7 +26,7 @@ fn memories(rt: HostRuntime) -> Result<(), Fail> {
     add_play(&mut plays, [1, 0, 2, 0, 0, 0, 0])?;
     for (bytes, count, records, number, place) in SIZES {
         let mut settings = vec![in heap; 7; bytes]?;
-        let mut values = vec![in heap; <truth::wide::Wide as TruthForm>::yes(); count]?;
+        let mut values = vec![in heap; Wide::yes(); count]?;
         let mut cases = vec![in heap; Case {
             input: 1,
             branch: 2,

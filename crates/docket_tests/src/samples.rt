@@ -64,7 +64,7 @@ pub fn tried(
 ) -> Result<(u64, Option<usize>), Fail> {
     let property = bytes_of(heap, property)?;
     let mut settings = vec![in heap; 9; 96]?;
-    let mut values = vec![in heap; <Wide as TruthForm>::open(); 3392]?;
+    let mut values = vec![in heap; Wide::open(); 3392]?;
     let mut cases = vec![in heap; Case::ZERO; 97]?;
     let answer = trial(
         docket,

@@ -43,7 +43,7 @@ fn worlds_at_once(rt: HostRuntime) -> Result<(), Fail> {
         rules: &rules,
         strata: &strata,
     };
-    let mut values = vec![in heap; <Wide as truth::form::TruthForm>::no(); VALUES]?;
+    let mut values = vec![in heap; Wide::no(); VALUES]?;
     put(&mut values, 0, Wide::settled(0b1111));
     put(&mut values, 1, Wide::settled(0b1100));
     put(&mut values, 4, Wide::settled(0b0101));

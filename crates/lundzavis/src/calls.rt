@@ -35,7 +35,7 @@ impl Memories {
     pub fn new(heap: Global) -> Result<Memories, AllocError> {
         Ok(Memories {
             settings: vec![in heap; 0; 96]?,
-            values: vec![in heap; <Wide as TruthForm>::no(); 3392]?,
+            values: vec![in heap; Wide::no(); 3392]?,
             cases: vec![in heap; Case::ZERO; 97]?,
         })
     }

@@ -5,7 +5,7 @@ ghost use Rattle.evaluate.specs.Grids.{Roomy};
 ghost use Rattle.evaluate.specs.Meanings.{meanings};
 ghost use Rattle.evaluate.specs.Positions.{choices};
 ghost use Rattle.parts.specs.Tables.{LevelIn, LevelsIn};
-ghost use Rattle.parts.specs.Values.{at as at_of, ended as EndedOf, undone_or_legal as undone_or_legal_of, every_move as every_move_of, legality as legality_of};
+ghost use Rattle.parts.specs.Values.{at as at_of, ended as ended_of, undone_or_legal as undone_or_legal_of, every_move as every_move_of, legality as legality_of};
 
 use evaluate::grid::Grid;
 use rules::opened::Rules;
@@ -25,7 +25,7 @@ pub fn value_at<T: TruthForm>(grid: &Grid<'_, T>, rules: &Rules, level: usize, a
 pub fn ended<T: TruthForm>(grid: &Grid<'_, T>, rules: &Rules, level: usize) -> T
     requires level { level < 5 }
     requires room { Roomy grid.now.values.now }
-    ensures { (L : ℕ → List (T.World → Answers)) → LevelIn T.means rules.now grid.now.values.now L level → T.means result ≡ EndedOf (meanings T.neg T.conj T.disj) rules.now L level }
+    ensures { (L : ℕ → List (T.World → Answers)) → LevelIn T.means rules.now grid.now.values.now L level → T.means result ≡ ended_of (meanings T.neg T.conj T.disj) rules.now L level }
 {
     let layout = rules.layout();
     let terminal = 2 * usize::from(layout.fluents) + 2 * usize::from(layout.moves);

@@ -43,7 +43,7 @@ pub fn property_value<T: TruthForm>(
     entry(grid, 0, 1)
 }
 
-// AllByRecursion of a value and of those properties that the step of one of this degree assumes, at level 0.
+// All of a value and of those properties that the step of one of this degree assumes, at level 0.
 fn and_assumed<T: TruthForm>(
     grid: &mut Grid<'_, T>,
     rules: &Rules,
@@ -70,7 +70,7 @@ fn and_assumed<T: TruthForm>(
     all
 }
 
-// AllByRecursion of: the moves are legal, the property is not satisfied.
+// All of: the moves are legal, the property is not satisfied.
 fn base_value<T: TruthForm>(grid: &mut Grid<'_, T>, rules: &Rules, property: &Property) -> T
     requires fits { Fits rules.now (records_of property.now) }
     requires room { Spacious grid.old.values.now }
@@ -85,7 +85,7 @@ fn base_value<T: TruthForm>(grid: &mut Grid<'_, T>, rules: &Rules, property: &Pr
     T::yes().and(legal).and(holds.not())
 }
 
-// AllByRecursion of: the moves are legal, the property and each assumed one is satisfied, following-the-property is not.
+// All of: the moves are legal, the property and each assumed one is satisfied, following-the-property is not.
 fn step_value<T: TruthForm>(
     grid: &mut Grid<'_, T>,
     rules: &Rules,

@@ -67,24 +67,24 @@ module _ (closed : List ℕ → Bool) (inp : Inputs) (c₀ : List ℕ) where
       let ne : j ≢ o.input = omega (arith, w.0) in
       sym (get_or-set_other c o.input j 0 0 ne) ∙ still_open os o.input o.at (set c o.input 0) j w.7 (omega (arith, w.0))
 
-  module _ (room type_size : ℕ) (fits : 8 * room ≤ type_size) where
-    pub drafting_starts : (cs : List Case) (area : List ℕ) → area ≡ replicate type_size 0 → Drafting closed inp c₀ 0 0 c₀ cs area room type_size None
+  module _ (room area_size : ℕ) (fits : 8 * room ≤ area_size) where
+    pub drafting_starts : (cs : List Case) (area : List ℕ) → area ≡ replicate area_size 0 → Drafting closed inp c₀ 0 0 c₀ cs area room area_size None
     drafting_starts cs area e =
-        let z : type_size ≡ type_size - 8 * 0 = omega arith in
+        let z : area_size ≡ area_size - 8 * 0 = omega arith in
         let f = first_low inp in
         record { within = omega arith; shallow = omega arith; state = ((refl, refl, omega arith), λ _. e ∙ ap (λ q. replicate q 0) z) }
 
-    module _ (d at : ℕ) (c : List ℕ) (cs : List Case) (area : List ℕ) (over : Option ℕ) (w : Drafting closed inp c₀ d at c cs area room type_size over) where
-      pub none_state : over ≡ None → Drawing closed inp c₀ (first_input inp + d) at c (stack d cs) × (at < room → area ≡ bytes (written closed inp c (stack d cs)) ++ replicate (type_size - 8 * at) 0)
-      none_state e = subst (State closed inp c₀ (first_input inp + d) at c (stack d cs) area room type_size) e w.state
+    module _ (d at : ℕ) (c : List ℕ) (cs : List Case) (area : List ℕ) (over : Option ℕ) (w : Drafting closed inp c₀ d at c cs area room area_size over) where
+      pub none_state : over ≡ None → Drawing closed inp c₀ (first_input inp + d) at c (stack d cs) × (at < room → area ≡ bytes (written closed inp c (stack d cs)) ++ replicate (area_size - 8 * at) 0)
+      none_state e = subst (State closed inp c₀ (first_input inp + d) at c (stack d cs) area room area_size) e w.state
 
-      pub some_state : (i : ℕ) → over ≡ Some i → Over closed inp c₀ (first_input inp + d) i at c (stack d cs) area type_size
-      some_state i e = subst (State closed inp c₀ (first_input inp + d) at c (stack d cs) area room type_size) e w.state
+      pub some_state : (i : ℕ) → over ≡ Some i → Over closed inp c₀ (first_input inp + d) i at c (stack d cs) area area_size
+      some_state i e = subst (State closed inp c₀ (first_input inp + d) at c (stack d cs) area room area_size) e w.state
 
       pub drafting_before : (i : ℕ) → over ≡ Some i → i < at
       drafting_before i e = omega (arith, (some_state i e).ends, size_pos (some_state i e).tree)
 
-      pub drafting_close : over ≡ None → closed c ≡ true → at < room → Drafting closed inp c₀ d (at + 1) c cs area room type_size (Some at)
+      pub drafting_close : over ≡ None → closed c ≡ true → at < room → Drafting closed inp c₀ d (at + 1) c cs area room area_size (Some at)
       drafting_close e h l =
           let s = none_state e in
           record {
@@ -96,7 +96,7 @@ module _ (closed : List ℕ → Bool) (inp : Inputs) (c₀ : List ℕ) where
                   drawing = s.0;
                   is = plain_closed closed inp (entries inp - (first_input inp + d)) (first_input inp + d) c h;
                   ends = refl;
-                  holds = s.1 l ∙ ap (λ q. bytes (written closed inp c (stack d cs)) ++ replicate q 0) (eight type_size at (omega arith));
+                  holds = s.1 l ∙ ap (λ q. bytes (written closed inp c (stack d cs)) ++ replicate q 0) (eight area_size at (omega arith));
                 };
           }
 
@@ -124,7 +124,7 @@ module _ (closed : List ℕ → Bool) (inp : Inputs) (c₀ : List ℕ) where
       pub drafting_split : (area' : List ℕ) → entries inp ≤ length c → entries inp ≤ length cs → ((n : ℕ) → 0 < branch_count inp n) → Unsettled inp c₀
           → over ≡ None → closed c ≡ false → first_input inp + d < entries inp → at < room
           → area' ≡ put (put (put area (8 * at) (kind_word inp (first_input inp + d))) (8 * at + 2) (number_word inp (first_input inp + d))) (8 * at + 4) (level_word inp (first_input inp + d))
-          → Drafting closed inp c₀ (d + 1) (at + 1) (set c (first_input inp + d) 1) (set cs d (record { at = at; input = first_input inp + d; branch = 0 })) area' room type_size over
+          → Drafting closed inp c₀ (d + 1) (at + 1) (set c (first_input inp + d) 1) (set cs d (record { at = at; input = first_input inp + d; branch = 0 })) area' room area_size over
       drafting_split area' l m n z e h k r q =
           let x = first_input inp + d in
           let s = none_state e in
@@ -136,28 +136,28 @@ module _ (closed : List ℕ → Bool) (inp : Inputs) (c₀ : List ℕ) where
           let f : Drawing closed inp c₀ (first_input inp + (d + 1)) (at + 1) (set c x 1) (o ∷ y) =
           (omega arith, k, n x, v, subst (λ j. closed j ≡ false) (sym u) h, (λ j b. let ff : ⊥ = omega arith in absurd ff), omega arith, subst (λ j. Drawing closed inp c₀ x at j y) (sym u) s.0) in
           let xs = bytes (written closed inp c y) in
-          let zs : List ℕ = replicate (type_size - 8 * (at + 1)) 0 in
+          let zs : List ℕ = replicate (area_size - 8 * (at + 1)) 0 in
           let len : length xs ≡ 8 * at = let a = length_bytes (written closed inp c y) in let b = length_written y x at c s.0 in omega arith in
           let rw₀ : List ℕ = kind_word inp x ∷ number_word inp x ∷ level_word inp x ∷ 0 ∷ [] in
-          let a₀ : area ≡ xs ++ (0 ∷ 0 ∷ 0 ∷ 0 ∷ 0 ∷ 0 ∷ 0 ∷ 0 ∷ zs) = s.1 r ∙ ap (λ j. xs ++ replicate j 0) (eight type_size at (omega arith)) in
+          let a₀ : area ≡ xs ++ (0 ∷ 0 ∷ 0 ∷ 0 ∷ 0 ∷ 0 ∷ 0 ∷ 0 ∷ zs) = s.1 r ∙ ap (λ j. xs ++ replicate j 0) (eight area_size at (omega arith)) in
           let a₁ : area' ≡ xs ++ (bytes rw₀ ++ zs) =
           q ∙ (ap (λ j. put (put (put j (8 * at) (kind_word inp x)) (8 * at + 2) (number_word inp x)) (8 * at + 4) (level_word inp x)) a₀ ∙ record_put xs zs at (kind_word inp x) (number_word inp x) (level_word inp x) len) in
           let b₁ : written closed inp (set c x 1) (o ∷ y) ≡ written closed inp c y ++ rw₀ = ap (λ j. written closed inp j y ++ rw₀) u in
           let b₂ : bytes (written closed inp (set c x 1) (o ∷ y)) ++ zs ≡ xs ++ (bytes rw₀ ++ zs) =
           ap (λ j. bytes j ++ zs) b₁ ∙ (ap (λ j. j ++ zs) (bytes_append (written closed inp c y) rw₀) ∙ append_assoc xs (bytes rw₀) zs) in
-          let st : State closed inp c₀ (first_input inp + (d + 1)) (at + 1) (set c x 1) (o ∷ y) area' room type_size None = (f, λ _. a₁ ∙ sym b₂) in
+          let st : State closed inp c₀ (first_input inp + (d + 1)) (at + 1) (set c x 1) (o ∷ y) area' room area_size None = (f, λ _. a₁ ∙ sym b₂) in
           record {
             within = omega arith;
             shallow = omega arith;
-            state = subst (λ j. State closed inp c₀ (first_input inp + (d + 1)) (at + 1) (set c x 1) j area' room type_size over) (sym p) (subst (State closed inp c₀ (first_input inp + (d + 1)) (at + 1) (set c x 1) (o ∷ y) area' room type_size) (sym e) st);
+            state = subst (λ j. State closed inp c₀ (first_input inp + (d + 1)) (at + 1) (set c x 1) j area' room area_size over) (sym p) (subst (State closed inp c₀ (first_input inp + (d + 1)) (at + 1) (set c x 1) (o ∷ y) area' room area_size) (sym e) st);
           }
 
       pub drafting_split_at : (x : ℕ) (r : Record) (area' : List ℕ) → x ≡ first_input inp + d → r ≡ split_record inp x
           → entries inp ≤ length c → entries inp ≤ length cs → ((n : ℕ) → 0 < branch_count inp n) → Unsettled inp c₀ → over ≡ None → closed c ≡ false → x < entries inp → at < room
           → area' ≡ put (put (put area (8 * at) (kind_of r)) (8 * at + 2) (number_of r)) (8 * at + 4) (level_of r)
-          → Drafting closed inp c₀ (d + 1) (at + 1) (set c x 1) (set cs d (record { at = at; input = x; branch = 0 })) area' room type_size over
+          → Drafting closed inp c₀ (d + 1) (at + 1) (set c x 1) (set cs d (record { at = at; input = x; branch = 0 })) area' room area_size over
       drafting_split_at x r area' ex er l m n z e h k o q =
-          subst (λ j. Drafting closed inp c₀ (d + 1) (at + 1) (set c j 1) (set cs d (record { at = at; input = j; branch = 0 })) area' room type_size over) (sym ex)
+          subst (λ j. Drafting closed inp c₀ (d + 1) (at + 1) (set c j 1) (set cs d (record { at = at; input = j; branch = 0 })) area' room area_size over) (sym ex)
           (drafting_split area' l m n z e h (subst (λ j. j < entries inp) ex k) o (q ∙ ap (λ j. put (put (put area (8 * at) (kind_of j)) (8 * at + 2) (number_of j)) (8 * at + 4) (level_of j)) (er ∙ ap (split_record inp) ex)))
 
       module _ (i : ℕ) (e : over ≡ Some i) (some : 0 < d) where
@@ -171,15 +171,15 @@ module _ (closed : List ℕ → Bool) (inp : Inputs) (c₀ : List ℕ) where
         pub drafting_top : Drawing closed inp c₀ (first_input inp + d) i c (o ∷ y)
         drafting_top = subst (Drawing closed inp c₀ (first_input inp + d) i c) (stack_top d cs some) (some_state i e).drawing
 
-        top_holds : area ≡ bytes (written closed inp c (o ∷ y)) ++ (bytes (file inp (some_state i e).tree i true) ++ replicate (type_size - 8 * at) 0)
-        top_holds = (some_state i e).holds ∙ ap (λ x. bytes (written closed inp c x) ++ (bytes (file inp (some_state i e).tree i true) ++ replicate (type_size - 8 * at) 0)) (stack_top d cs some)
+        top_holds : area ≡ bytes (written closed inp c (o ∷ y)) ++ (bytes (file inp (some_state i e).tree i true) ++ replicate (area_size - 8 * at) 0)
+        top_holds = (some_state i e).holds ∙ ap (λ x. bytes (written closed inp c x) ++ (bytes (file inp (some_state i e).tree i true) ++ replicate (area_size - 8 * at) 0)) (stack_top d cs some)
 
         this : sub closed inp (set c o.input 0) o.input o.branch ≡ made (some_state i e).tree
         this = here closed inp c₀ (first_input inp + d) i c o y drafting_top ∙ (some_state i e).is
 
         pub drafting_next : (area' : List ℕ) → entries inp ≤ length c → d ≤ length cs → o.branch + 1 < branch_count inp o.input
             → area' ≡ cond (ltb at room) (put area (8 * i + 6) (at + 1)) area
-            → Drafting closed inp c₀ d at (set c o.input (o.branch + 2)) (set cs (d - 1) (record { at = o.at; input = o.input; branch = o.branch + 1 })) area' room type_size None
+            → Drafting closed inp c₀ d at (set c o.input (o.branch + 2)) (set cs (d - 1) (record { at = o.at; input = o.input; branch = o.branch + 1 })) area' room area_size None
         drafting_next area' l m b q =
             let k = o.input in
             let p = set c k 0 in
@@ -200,7 +200,7 @@ module _ (closed : List ℕ → Bool) (inp : Inputs) (c₀ : List ℕ) where
             let tail = subst (λ x. (closed x ≡ false) × ((j : ℕ) → j < o.branch + 1 → sub closed inp x k j ≡ made (tree_of (sub closed inp x k j))) × (at ≡ o.at + 1 + done_size (sub closed inp x k) (o.branch + 1)) × Drawing closed inp c₀ k o.at x y) u (w'.4, all, omega (arith, w'.6), w'.7) in
             let dr : Drawing closed inp c₀ (first_input inp + d) at c' (n ∷ y) = (w'.0, w'.1, b, v, tail.0, tail.1, tail.2, tail.3) in
             let s = stack_change d cs n some m in
-            let zs' : List ℕ = replicate (type_size - 8 * at) 0 in
+            let zs' : List ℕ = replicate (area_size - 8 * at) 0 in
             let big = written closed inp p y in
             let front = written closed inp c (o ∷ y) in
             let len : length (bytes front) ≡ 8 * i = let a₁ = length_bytes front in let a₂ = length_written (o ∷ y) (first_input inp + d) i c w' in omega arith in
@@ -214,14 +214,14 @@ module _ (closed : List ℕ → Bool) (inp : Inputs) (c₀ : List ℕ) where
             ap (λ x. bytes x ++ zs') b₂ ∙ (ap (λ x. x ++ zs') (bytes_append front (file inp t i false)) ∙ append_assoc (bytes front) (bytes (file inp t i false)) zs') in
             let a₁ : at < room → area' ≡ bytes front ++ (bytes (file inp t i false) ++ zs') =
             λ r. q ∙ (cond-true _ _ _ (lt-ltb at room r) ∙ (ap (λ x. put x (8 * i + 6) (at + 1)) top_holds ∙ patched inp t i at (bytes front) zs' len en)) in
-            let st : State closed inp c₀ (first_input inp + d) at c' (n ∷ y) area' room type_size None = (dr, λ r. a₁ r ∙ sym b₃) in
+            let st : State closed inp c₀ (first_input inp + d) at c' (n ∷ y) area' room area_size None = (dr, λ r. a₁ r ∙ sym b₃) in
             record {
               within = w.within;
               shallow = w.shallow;
-              state = subst (λ x. State closed inp c₀ (first_input inp + d) at c' x area' room type_size None) (sym s) st;
+              state = subst (λ x. State closed inp c₀ (first_input inp + d) at c' x area' room area_size None) (sym s) st;
             }
 
-        pub drafting_pop : branch_count inp o.input ≤ o.branch + 1 → Drafting closed inp c₀ (d - 1) at (set c o.input 0) cs area room type_size (Some o.at)
+        pub drafting_pop : branch_count inp o.input ≤ o.branch + 1 → Drafting closed inp c₀ (d - 1) at (set c o.input 0) cs area room area_size (Some o.at)
         drafting_pop b =
             let k = o.input in
             let p = set c k 0 in
@@ -239,7 +239,7 @@ module _ (closed : List ℕ → Bool) (inp : Inputs) (c₀ : List ℕ) where
             let ts = trees_from g n 0 in
             let sz = size_done inp g o.branch 1 n nb in
             let fd = files_done inp g o.branch 0 n (o.at + 1) nb in
-            let zs' : List ℕ = replicate (type_size - 8 * at) 0 in
+            let zs' : List ℕ = replicate (area_size - 8 * at) 0 in
             let i' : o.at + 1 + done_size g o.branch ≡ i = sym w'.6 in
             let big = written closed inp p y in
             let df = done_files inp g o.branch (o.at + 1) in
@@ -253,7 +253,7 @@ module _ (closed : List ℕ → Bool) (inp : Inputs) (c₀ : List ℕ) where
             let h₂ : bytes (big ++ (kind_word inp k ∷ number_word inp k ∷ level_word inp k ∷ 0 ∷ (df ++ file inp t i true))) ++ zs' ≡ bytes big ++ (bytes (file inp (split k ts) o.at true) ++ zs') =
             ap (λ x. bytes (big ++ (kind_word inp k ∷ number_word inp k ∷ level_word inp k ∷ 0 ∷ x)) ++ zs') (sym b₁)
             ∙ (ap (λ x. x ++ zs') (bytes_append big (file inp (split k ts) o.at true)) ∙ append_assoc (bytes big) (bytes (file inp (split k ts) o.at true)) zs') in
-            let st : State closed inp c₀ k at p y area room type_size (Some o.at) =
+            let st : State closed inp c₀ k at p y area room area_size (Some o.at) =
             record {
               tree = split k ts;
               drawing = w'.7;
@@ -264,7 +264,7 @@ module _ (closed : List ℕ → Bool) (inp : Inputs) (c₀ : List ℕ) where
             record {
               within = w.within;
               shallow = omega (arith, w.shallow);
-              state = subst (λ x. State closed inp c₀ x at p y area room type_size (Some o.at)) (sym dk) st;
+              state = subst (λ x. State closed inp c₀ x at p y area room area_size (Some o.at)) (sym dk) st;
             }
 
 -- The room that an area has.

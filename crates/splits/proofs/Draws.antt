@@ -42,21 +42,21 @@ module _ (closed : List ℕ → Bool) (inp : Inputs) where
   written c [] = []
   written c (o ∷ os) = written (set c o.input 0) os ++ (kind_word inp o.input ∷ number_word inp o.input ∷ level_word inp o.input ∷ 0 ∷ done_files inp (sub (set c o.input 0) o.input) o.branch (o.at + 1))
 
-  pub record Over (c₀ : List ℕ) (d i at : ℕ) (c : List ℕ) (s : List Case) (area : List ℕ) (type_size : ℕ) : Type 0 where
+  pub record Over (c₀ : List ℕ) (d i at : ℕ) (c : List ℕ) (s : List Case) (area : List ℕ) (area_size : ℕ) : Type 0 where
     pub tree : Tree
     pub drawing : Drawing c₀ d i c s
     pub is : plain_from closed inp d c ≡ made tree
     pub ends : at ≡ i + size tree
-    pub holds : area ≡ bytes (written c s) ++ (bytes (file inp tree i true) ++ replicate (type_size - 8 * at) 0)
+    pub holds : area ≡ bytes (written c s) ++ (bytes (file inp tree i true) ++ replicate (area_size - 8 * at) 0)
 
   abbrev pub State : List ℕ → ℕ → ℕ → List ℕ → List Case → List ℕ → ℕ → ℕ → Option ℕ → Type 0
-  State c₀ d at c s area room type_size None = Drawing c₀ d at c s × (at < room → area ≡ bytes (written c s) ++ replicate (type_size - 8 * at) 0)
-  State c₀ d at c s area room type_size (Some i) = Over c₀ d i at c s area type_size
+  State c₀ d at c s area room area_size None = Drawing c₀ d at c s × (at < room → area ≡ bytes (written c s) ++ replicate (area_size - 8 * at) 0)
+  State c₀ d at c s area room area_size (Some i) = Over c₀ d i at c s area area_size
 
-  pub record Drafting (c₀ : List ℕ) (d at : ℕ) (c : List ℕ) (cs : List Case) (area : List ℕ) (room type_size : ℕ) (over : Option ℕ) : Type 0 where
+  pub record Drafting (c₀ : List ℕ) (d at : ℕ) (c : List ℕ) (cs : List Case) (area : List ℕ) (room area_size : ℕ) (over : Option ℕ) : Type 0 where
     pub within : at ≤ room
     pub shallow : first_input inp + d ≤ entries inp
-    pub state : State c₀ (first_input inp + d) at c (stack d cs) area room type_size over
+    pub state : State c₀ (first_input inp + d) at c (stack d cs) area room area_size over
 
 -- Over the branches of one split.
 abbrev pub trees_from : (ℕ → Drawn) → ℕ → ℕ → Trees
