@@ -1,4 +1,5 @@
 // Evaluation: rule files of growing size, at both truth forms and over one level or five.
+use crate::timing::Timing;
 use crate::words::add;
 use evaluate::grid::Grid;
 use evaluate::indexed::Indexed;
@@ -7,7 +8,6 @@ use rules::opened::Rules;
 use rules::opening::open;
 use std::alloc::{AllocError, Global};
 use std::io;
-use std::time::Instant;
 use truth::form::TruthForm;
 use truth::three::Three;
 use truth::wide::Wide;
@@ -89,16 +89,17 @@ fn time<T: TruthForm + Drop>(
     values: &mut [T],
     horizon: usize,
 ) -> io::Result<u128> {
-    let start = Instant::now(rt)?;
-    for _ in 0..TURNS {
-        if values.len() >= VALUES && horizon < 5 {
+    let timing = Timing::of(rt, TURNS, || {
+        let roomy = values.len() >= VALUES && horizon < 5;
+        if roomy {
             let mut grid = Grid {
                 values: &mut *values,
             };
             grid.play(rules, horizon);
         }
-    }
-    Ok(start.elapsed(rt)?.as_micros() / 20)
+        roomy
+    })?;
+    Ok(timing.micros)
 }
 
 fn line(rt: &HostRuntime, rules: &Rules, strata: u16) -> io::Result<()> {

@@ -3,6 +3,7 @@
 
 mod evaluation;
 mod opening;
+mod timing;
 mod words;
 
 use std::io;

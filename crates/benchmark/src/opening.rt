@@ -1,10 +1,10 @@
 // Opening: the largest rule file, with every chain shared.
+use crate::timing::Timing;
 use crate::words::add;
 use rules::checks::check;
 use rules::opening::open;
 use std::alloc::{AllocError, Global};
 use std::io;
-use std::time::Instant;
 
 const ATOMS: u16 = 512;
 
@@ -42,43 +42,16 @@ fn shared(heap: Global, last: u16) -> Result<Vec<u8>, AllocError> {
     Ok(bytes)
 }
 
-// Microseconds for one of some turns of `check`, and how many found no fault.
-fn time_check(rt: &HostRuntime, bytes: &[u8]) -> io::Result<(u128, u16)> {
-    let start = Instant::now(rt)?;
-    let mut passed: u16 = 0;
-    for _ in 0..TURNS {
-        if check(bytes).is_ok() {
-            passed = passed.saturating_add(1);
-        }
-    }
-    Ok((start.elapsed(rt)?.as_micros() / 200, passed))
-}
-
-fn time_open(rt: &HostRuntime, bytes: &[u8]) -> io::Result<(u128, u16)> {
-    let start = Instant::now(rt)?;
-    let mut passed: u16 = 0;
-    for _ in 0..TURNS {
-        if open(rt.alloc(), bytes).is_ok() {
-            passed = passed.saturating_add(1);
-        }
-    }
-    Ok((start.elapsed(rt)?.as_micros() / 200, passed))
-}
-
 pub fn run(rt: &HostRuntime) -> io::Result<()> {
     // every literal names a fluent: taken
     let good = shared(rt.alloc(), 1)?;
     let length = good.len();
-    let (micros, passed) = time_check(rt, good.as_slice())?;
-    eprintln!(rt;
-        "check, {length} bytes, all chains shared: {micros} microseconds, {passed} of {TURNS} taken"
-    )?;
-    let (micros, passed) = time_open(rt, good.as_slice())?;
-    eprintln!(rt; "open, the same: {micros} microseconds, {passed} of {TURNS} taken")?;
+    let checked = Timing::of(rt, TURNS, || check(good.as_slice()).is_ok())?;
+    eprintln!(rt; "check, {length} bytes, all chains shared: {checked}")?;
+    let opened = Timing::of(rt, TURNS, || open(rt.alloc(), good.as_slice()).is_ok())?;
+    eprintln!(rt; "open, the same: {opened}")?;
     // the last literal names a does atom, which no still head takes: the place is found by walking
     let bad = shared(rt.alloc(), 129)?;
-    let (micros, passed) = time_check(rt, bad.as_slice())?;
-    eprintln!(rt;
-        "check, the last literal broken: {micros} microseconds, {passed} of {TURNS} taken"
-    )
+    let checked = Timing::of(rt, TURNS, || check(bad.as_slice()).is_ok())?;
+    eprintln!(rt; "check, the last literal broken: {checked}")
 }

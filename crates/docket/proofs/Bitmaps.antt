@@ -1,5 +1,5 @@
 -- Masks made bit by bit, from the highest down.
-use Rattle.std.proofs.Common.{◌≡◌, ℕ, zero, suc, ◌+◌, ◌-◌, ◌*◌, ◌/◌, ◌%◌, ◌^◌, ◌<◌, ◌≤◌, Bool, true, false, ◌&&◌, eqb, ltb, sym, refl, ap, ◌∙◌, div-one, arith, pow_mono}
+use Rattle.std.proofs.Common.{◌≡◌, ℕ, zero, suc, ◌+◌, ◌-◌, ◌*◌, ◌/◌, ◌%◌, ◌^◌, ◌<◌, ◌≤◌, Bool, true, false, ◌&&◌, eqb, ltb, sym, refl, subst, ap, ◌∙◌, div-one, arith, pow_mono}
 use Rattle.std.proofs.lemmas.Nat.{pow-add, shr-shr}
 use Rattle.std.proofs.lemmas.Bool.{lt-ltb, le-ltb}
 use Rattle.truth.specs.Bit.{bit}
@@ -30,27 +30,33 @@ high_bit m b k =
     let e : a / 2 ≡ m = omega arith in
     sym (ap odd (shr-shr a 1 k) ∙ ap (bit a) (omega arith)) ∙ ap (λ (x : ℕ). bit x k) e
 
+-- no bits but those from n on, of count
+abbrev pub Small : (count n mask : ℕ) → Type 0
+Small count n mask = mask < 2 ^ (count - n)
+
+pub small_starts : (count : ℕ) → Small count count 0
+small_starts count = let e : count - count ≡ 0 = omega arith in rw e (omega arith)
+
+pub small_goes : (count n mask : ℕ) (b : Bool) (new before : ℕ) → n < count → before ≡ n + 1 → new ≡ 2 * mask + flag b → Small count before mask → Small count n new
+small_goes count n mask b new before h e is o =
+    let d : count - n ≡ 1 + (count - (n + 1)) = omega arith in
+    let q = pow-add 2 1 (count - (n + 1)) in
+    let s = small_flag b in
+    let t : mask < 2 ^ (count - (n + 1)) = subst (λ (j : ℕ). mask < 2 ^ (count - j)) e o in
+    rw is (rw d (omega arith))
+
+pub small_fits : (count n mask : ℕ) → 0 < n → count ≤ 64 → Small count n mask → mask < 2 ^ 63
+small_fits count n mask h few s = let q = pow_mono {i = count - n} {j = 63} (omega arith) in omega arith
+
 -- the bits from n on are in place, of count
-pub record Masked (p : ℕ → Bool) (count n mask : ℕ) : Type 0 where
-  pub small : mask < 2 ^ (count - n)
-  pub bits : (k : ℕ) → bit mask k ≡ ltb (k + n) count && p (k + n)
+abbrev pub Masked : (p : ℕ → Bool) (count n mask : ℕ) → Type 0
+Masked p count n mask = (k : ℕ) → bit mask k ≡ ltb (k + n) count && p (k + n)
 
 pub masked_starts : (p : ℕ → Bool) (count : ℕ) → Masked p count count 0
-masked_starts p count = record {
-  small = let e : count - count ≡ 0 = omega arith in rw e (omega arith);
-  bits = λ k. bit_zero k ∙ sym (ap (λ t. t && p (k + count)) (le-ltb (k + count) count (omega arith)));
-}
+masked_starts p count = λ k. bit_zero k ∙ sym (ap (λ t. t && p (k + count)) (le-ltb (k + count) count (omega arith)))
 
 pub masked_goes : (p : ℕ → Bool) (count n mask : ℕ) → n < count → Masked p count (n + 1) mask → Masked p count n (2 * mask + flag (p n))
-masked_goes p count n mask h old = record {
-  small =
-      let e : count - n ≡ 1 + (count - (n + 1)) = omega arith in
-      let q = pow-add 2 1 (count - (n + 1)) in
-      let s = small_flag (p n) in
-      let o = old.small in
-      rw e (omega arith);
-  bits = goes;
-}
+masked_goes p count n mask h old = goes
   where
     goes : (k : ℕ) → bit (2 * mask + flag (p n)) k ≡ ltb (k + n) count && p (k + n)
     goes zero =
@@ -58,10 +64,7 @@ masked_goes p count n mask h old = record {
         low_bit mask (p n) ∙ ap p e ∙ sym (ap (λ t. t && p (0 + n)) (lt-ltb (0 + n) count (omega arith)))
     goes (suc k) =
         let e : k + (n + 1) ≡ suc k + n = omega arith in
-        high_bit mask (p n) k ∙ old.bits k ∙ ap (λ j. ltb j count && p j) e
-
-pub masked_fits : (p : ℕ → Bool) (count n mask : ℕ) → 0 < n → count ≤ 64 → Masked p count n mask → mask < 2 ^ 63
-masked_fits p count n mask h few m = let s = m.small in let q = pow_mono {i = count - n} {j = 63} (omega arith) in omega arith
+        high_bit mask (p n) k ∙ old k ∙ ap (λ j. ltb j count && p j) e
 
 pub masked_ends : (p : ℕ → Bool) (count n mask : ℕ) → n ≡ 0 → Masked p count n mask → (k : ℕ) → bit mask k ≡ ltb k count && p k
-masked_ends p count n mask z m k = m.bits k ∙ ap (λ j. ltb j count && p j) (omega arith)
+masked_ends p count n mask z m k = m k ∙ ap (λ j. ltb j count && p j) (omega arith)

@@ -1,6 +1,7 @@
 pub mod Bitmaps
 pub mod Choosing
 pub mod Inputs
+pub mod Parts
 pub mod Spelling
 pub mod Lawful
 pub mod Standing

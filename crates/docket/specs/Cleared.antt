@@ -1,7 +1,7 @@
 -- What lent memories hold when a call has ended.
 use Rattle.std.specs.Prelude.{◌≡◌, ℕ, ◌<◌, List, length, slice_index, slice_index_or}
 use Rattle.truth.specs.Forms.{only_no, Meaning}
-use Rattle.docket.specs.declared.cases.Case.{Case}
+use Rattle.splits.specs.declared.cases.Case.{Case}
 
 -- bytes that are zero
 abbrev pub Zeroed : List ℕ → Type 0

@@ -1,5 +1,5 @@
 -- A docket: its rule file, and the properties that stand on it.
-use Rattle.std.specs.Prelude.{List, map, take, Ok, Err, Result}
+use Rattle.std.specs.Prelude.{List, map, Ok, Err, Result}
 use Rattle.rules.specs.declared.opened.Rules.{Rules}
 use Rattle.rules.specs.declared.faults.Refusal.{Refusal}
 use Rattle.property.specs.declared.properties.Property.{Property}
@@ -14,7 +14,7 @@ rules_opened (Err refusal) = Err refusal
 
 -- the properties that stand, in the order in which they were admitted; and as trees
 abbrev pub properties_of : Docket → List Property
-properties_of docket = take docket.count docket.properties
+properties_of docket = docket.properties.items
 
 abbrev pub trees_of : Docket → List Tree
 trees_of docket = map tree_of (properties_of docket)

@@ -3,13 +3,13 @@ ghost use Rattle.truth.specs.Wide.{means};
 ghost use Rattle.docket.specs.Cleared.{Zeroed, AllNo, Blank};
 ghost use Rattle.docket.specs.Trials.{trial_fault, fault_in, Tried};
 
-use crate::cases::Case;
 use crate::clearing::{clear_cases, clear_values};
 use crate::dockets::Docket;
 use crate::faults::TrialFault;
 use crate::settings::Settings;
 use crate::trials::{Trial, try_plays};
 use play::part::Part;
+use splits::cases::Case;
 use truth::wide::Wide;
 
 // Tries up to 64 plays against a part of a property on this docket. Whatever the answer, the lent memories are cleared.

@@ -13,8 +13,8 @@ pub fn choice_at(moves: &[u16], c: usize) -> Choice
     ensures { result ≡ choice_of moves.now c }
 {
     let mut left = c;
-    for role in 0..moves.len() {
-        let count = usize::from(moves[role]);
+    for (role, moves) in moves.iter().enumerate() {
+        let count = usize::from(*moves);
         if left < count {
             return Choice {
                 role,

@@ -1,7 +1,7 @@
 ghost use Rattle.std.specs.Prelude.{◌≡◌, length};
 ghost use Rattle.docket.specs.Cleared.{AllNo, Blank};
 
-use crate::cases::Case;
+use splits::cases::Case;
 use truth::form::TruthForm;
 
 // Puts every value back to no.
@@ -19,7 +19,5 @@ pub fn clear_cases(cases: &mut [Case])
     ensures zero { Blank cases.new }
     ensures len { length cases.new ≡ length cases.old }
 {
-    for case in cases.iter_mut() {
-        *case = Case::ZERO;
-    }
+    cases.fill(Case::default());
 }

@@ -10,7 +10,6 @@
 #![tactic(auto)]
 
 pub mod calls;
-pub mod cases;
 mod choices;
 pub mod claims;
 pub mod clearing;
@@ -22,5 +21,4 @@ pub mod memories;
 pub mod opening;
 pub mod plays;
 pub mod settings;
-pub mod texts;
 pub mod trials;

@@ -15,39 +15,37 @@ ghost use Rattle.docket.specs.Plays.{Spells};
 ghost use Rattle.docket.specs.Trials.{FirstMarked, MarksPlays};
 
 use crate::dockets::Docket;
-use crate::masks::plays_below;
+use crate::masks::all_plays;
 use crate::plays::put_plays;
 use evaluate::grid::Grid;
-use evaluate::indexed::Indexed;
-use parts::part_value::evaluate_part;
+use parts::part_value::Claim;
 use play::part::Part;
+use play::plays::Plays;
 use property::properties::Property;
 use truth::form::TruthForm;
 use truth::wide::Wide;
 
 // Whether each play breaks the part: in world k, play k.
-fn judge(
-    docket: &Docket,
+fn judge<'a>(
+    docket: &'a Docket,
     part: Part,
-    property: &Property,
-    plays: &[u8],
-    count: usize,
+    property: &'a Property,
+    plays: Plays<'_>,
     values: &mut [Wide],
 ) -> Wide
     requires fits { Fits docket.now.rules (records_of property.now) }
-    requires few { count ≤ 64 }
-    requires long { 96 * count ≤ length plays.now }
     requires room { Spacious values.old }
-    ensures { (G : Game Position (Joint (moves_of docket.now.rules))) → ReadsStandardModel docket.now.rules G → (w : Place) → w.at < count → (play : Play Position (Joint (moves_of docket.now.rules))) → Spells docket.now.rules (horizon_of part (degree_of (tree_of property.now))) plays.now w.at play → wide_means result w ≡ just (marked (by_number G) part (trees_of docket.now) (tree_of property.now) play) }
+    ensures { (G : Game Position (Joint (moves_of docket.now.rules))) → ReadsStandardModel docket.now.rules G → (w : Place) → w.at < plays.entry.count → (play : Play Position (Joint (moves_of docket.now.rules))) → Spells docket.now.rules (horizon_of part (degree_of (tree_of property.now))) plays.entry.bytes.now w.at play → wide_means result w ≡ just (marked (by_number G) part (trees_of docket.now) (tree_of property.now) play) }
 {
     let horizon = usize::from(part.horizon(property.degree()));
-    put_plays(&docket.rules, plays, count, horizon, values);
-    let rules = Indexed {
+    put_plays(&docket.rules, plays, horizon, values);
+    let claim = Claim {
         rules: &docket.rules,
-        strata: &docket.strata,
+        part,
+        property,
+        docket: docket.properties(),
     };
-    let mut grid = Grid { values };
-    evaluate_part(&mut grid, rules, part, property, docket.properties())
+    claim.evaluate(&docket.strata, &mut Grid { values })
 }
 
 // The plays that break the part, bit k for play k.
@@ -55,28 +53,20 @@ pub fn mark(
     docket: &Docket,
     part: Part,
     property: &Property,
-    plays: &[u8],
-    count: usize,
+    plays: Plays<'_>,
     values: &mut [Wide],
 ) -> u64
     requires fits { Fits docket.now.rules (records_of property.now) }
-    requires few { count ≤ 64 }
-    requires long { 96 * count ≤ length plays.now }
     requires room { Spacious values.old }
-    ensures { MarksPlays docket.now part (tree_of property.now) plays.now count result }
+    ensures { MarksPlays docket.now part (tree_of property.now) plays.entry.bytes.now plays.entry.count result }
 {
-    let broken = judge(docket, part, property, plays, count, values);
-    broken.and(Wide::settled(plays_below(count))).may_be_yes()
+    let broken = judge(docket, part, property, plays, values);
+    broken.and(Wide::settled(all_plays(plays))).may_be_yes()
 }
 
 // The first play whose bit is set.
 pub fn first_marked(marks: u64) -> Option<usize>
     ensures { FirstMarked marks result }
 {
-    for k in 0..64 {
-        if (marks >> k) % 2 == 1 {
-            return Some(k);
-        }
-    }
-    None
+    (0..64).find(|k| (marks >> *k) % 2 == 1)
 }

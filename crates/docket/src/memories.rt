@@ -40,34 +40,39 @@ impl Shortage {
     }
 }
 
-// Whether the first three memories, of these lengths, suffice; or the first that is too short.
-pub fn check_memories(settings: usize, values: usize, cases: usize) -> Result<(), Shortage>
-    ensures { result ≡ verdict (short_memory settings values cases) tt }
-{
-    if settings < SETTINGS {
-        return Err(Shortage::Settings);
-    }
-    if values < VALUES {
-        return Err(Shortage::Values);
-    }
-    if cases < CASES {
-        return Err(Shortage::Cases);
-    }
-    Ok(())
+// How long lent memories are: settings in bytes, values and case records by number.
+#[derive(Clone, Copy, PartialEq, Eq, Debug)]
+pub struct Lengths {
+    pub settings: usize,
+    pub values: usize,
+    pub cases: usize,
 }
 
-// The same with the play buffer.
-pub fn check_with_buffer(
-    settings: usize,
-    values: usize,
-    cases: usize,
-    buffer: usize,
-) -> Result<(), Shortage>
-    ensures { result ≡ verdict (short_memory_or_buffer settings values cases buffer) tt }
-{
-    check_memories(settings, values, cases)?;
-    if buffer < BUFFER {
-        return Err(Shortage::Buffer);
+impl Lengths {
+    // Whether they suffice; or the first memory that is too short.
+    pub fn check(self) -> Result<(), Shortage>
+        ensures { result ≡ verdict (short_memory self.settings self.values self.cases) tt }
+    {
+        if self.settings < SETTINGS {
+            return Err(Shortage::Settings);
+        }
+        if self.values < VALUES {
+            return Err(Shortage::Values);
+        }
+        if self.cases < CASES {
+            return Err(Shortage::Cases);
+        }
+        Ok(())
     }
-    Ok(())
+
+    // The same with a play buffer of so many bytes.
+    pub fn check_with_buffer(self, buffer: usize) -> Result<(), Shortage>
+        ensures { result ≡ verdict (short_memory_or_buffer self.settings self.values self.cases buffer) tt }
+    {
+        self.check()?;
+        if buffer < BUFFER {
+            return Err(Shortage::Buffer);
+        }
+        Ok(())
+    }
 }

@@ -10,9 +10,7 @@ impl Drop for Settings<'_> {
     fn drop(self)
         ensures { Zeroed self.exit.0.now }
     {
-        for byte in self.bytes.iter_mut() {
-            *byte = 0;
-        }
+        self.bytes.fill(0);
         let Settings { bytes: _ } = self;
     }
 }

@@ -4,9 +4,9 @@ ghost use Rattle.docket.specs.Trials.{trial_fault, fault_in, Tried};
 use crate::dockets::Docket;
 use crate::faults::TrialFault;
 use crate::marking::{first_marked, mark};
-use crate::memories::check_memories;
-use play::bytes::check;
+use crate::memories::Lengths;
 use play::part::Part;
+use play::plays::Plays;
 use property::reading::read;
 use truth::wide::Wide;
 
@@ -30,11 +30,16 @@ pub fn try_plays(
     ensures fault { fault_in result ≡ trial_fault docket.now part property.now plays.now settings (length values.old) cases }
     ensures tried { IfOk result (λ t. Tried docket.now part property.now plays.now t) }
 {
-    check_memories(settings, values.len(), cases)?;
+    Lengths {
+        settings,
+        values: values.len(),
+        cases,
+    }
+    .check()?;
     let property = read(&docket.rules, property)?;
     let levels = part.horizon(property.degree());
-    let count = check(&docket.rules, part, levels, plays)?;
-    let marks = mark(docket, part, &property, plays, count, values);
+    let plays = Plays::read(&docket.rules, part, levels, plays)?;
+    let marks = mark(docket, part, &property, plays, values);
     let first = first_marked(marks);
     Ok(Trial { marks, first })
 }

@@ -1,20 +1,20 @@
 // Lent memories one short, exact and longer; they are cleared whatever comes.
 use crate::samples::{SECOND, add_play, bytes_of, opened};
 use docket::calls::trial;
-use docket::cases::Case;
 use play::part::Part;
+use splits::cases::Case;
 use std::test::Fail;
 use truth::form::TruthForm;
 use truth::wide::Wide;
 
-// Settings, values and case records; then the number and place of the fault, or 0 and 0.
-const SIZES: [(usize, usize, usize, u8, usize); 6] = [
-    (96, 3392, 97, 0, 0),
-    (100, 3400, 100, 0, 0),
-    (95, 3392, 97, 10, 1),
-    (96, 3391, 97, 10, 2),
-    (96, 3392, 96, 10, 3),
-    (0, 0, 0, 10, 1),
+// Settings, values and case records; then the number and place of the fault, if there is one.
+const SIZES: [(usize, usize, usize, Option<(u8, usize)>); 6] = [
+    (96, 3392, 97, None),
+    (100, 3400, 100, None),
+    (95, 3392, 97, Some((10, 1))),
+    (96, 3391, 97, Some((10, 2))),
+    (96, 3392, 96, Some((10, 3))),
+    (0, 0, 0, Some((10, 1))),
 ];
 
 #[test]
@@ -24,7 +24,7 @@ fn memories(rt: HostRuntime) -> Result<(), Fail> {
     let property = bytes_of(heap, &[2, 2, 0, 3, 3, 0, 1, 1, 4, 1, 2, 0])?;
     let mut plays = Vec::new(heap);
     add_play(&mut plays, [1, 0, 2, 0, 0, 0, 0])?;
-    for (bytes, count, records, number, place) in SIZES {
+    for (bytes, count, records, expected) in SIZES {
         let mut settings = vec![in heap; 7; bytes]?;
         let mut values = vec![in heap; Wide::yes(); count]?;
         let mut cases = vec![in heap; Case {
@@ -41,10 +41,10 @@ fn memories(rt: HostRuntime) -> Result<(), Fail> {
             values.as_mut_slice(),
             cases.as_mut_slice(),
         ) {
-            Ok(_) => (0, 0),
-            Err(fault) => (fault.report().number, fault.report().place),
+            Ok(_) => None,
+            Err(fault) => Some((fault.report().number, fault.report().place)),
         };
-        assert_eq!(rt; answer, (number, place));
+        assert_eq!(rt; answer, expected);
         for byte in settings.iter() {
             assert!(rt; *byte == 0);
         }
@@ -52,7 +52,7 @@ fn memories(rt: HostRuntime) -> Result<(), Fail> {
             assert!(rt; value.may_be_yes() == 0);
         }
         for case in cases.iter() {
-            assert!(rt; case.input == 0 && case.branch == 0 && case.number == 0);
+            assert_eq!(rt; *case, Case::default());
         }
     }
     Ok(())

@@ -1,9 +1,9 @@
 // Rule files, properties and plays to try.
 use docket::calls::trial;
-use docket::cases::Case;
 use docket::dockets::Docket;
 use docket::opening::open;
 use play::part::Part;
+use splits::cases::Case;
 use std::alloc::Global;
 use std::test::Fail;
 use truth::form::TruthForm;
@@ -45,12 +45,8 @@ pub fn opened(heap: Global, words: &[u16]) -> Result<Docket, Fail> {
 
 // A play's first bytes; zeros follow.
 pub fn add_play(bytes: &mut Vec<u8>, start: [u8; 7]) -> Result<(), Fail> {
-    for byte in start {
-        bytes.push(byte)?;
-    }
-    for _ in 7..96 {
-        bytes.push(0)?;
-    }
+    bytes.extend_from_slice(&start)?;
+    bytes.extend_from_slice(&[0; 89])?;
     Ok(())
 }
 
@@ -65,7 +61,7 @@ pub fn tried(
     let property = bytes_of(heap, property)?;
     let mut settings = vec![in heap; 9; 96]?;
     let mut values = vec![in heap; Wide::open(); 3392]?;
-    let mut cases = vec![in heap; Case::ZERO; 97]?;
+    let mut cases = vec![in heap; Case::default(); 97]?;
     let answer = trial(
         docket,
         part,

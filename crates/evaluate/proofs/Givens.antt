@@ -77,10 +77,6 @@ module _ {V : Type 0} (o : Ops V) (R : Rules) where
   unfolding given
   look_given fluent doing a h = get_or-map-range_with_len (input o R fluent doing) 0 (length (atoms_of R)) a a o.no' h (omega arith)
 
-  pub level_length : (fluent doing : ℕ → V) → length (level_of o R fluent doing) ≡ length (atoms_of R)
-  unfolding level_of evaluated
-  level_length fluent doing = up_to_length o (program_of R) 30 (given o R fluent doing)
-
   evaluated_length : (vs : List V) → length (evaluated o (program_of R) vs) ≡ length (atoms_of R)
   unfolding evaluated
   evaluated_length vs = up_to_length o (program_of R) 30 vs

@@ -1,8 +1,8 @@
 pub mod Looks
 pub mod Chains
 pub mod Passings
-pub mod Listings
 pub mod Rows
+pub mod Parts
 pub mod Writes
 pub mod Filling
 pub mod Members

@@ -1,6 +1,6 @@
 -- The numbers below a limit that pass a test.
 use Rattle.std.proofs.Common.{◌≡◌, ℕ, zero, suc, ◌+◌, ◌-◌, ◌<◌, Bool, true, false, cond, List, [], ◌∷◌, ◌++◌, length, get_or, sym, refl, ap, ◌∙◌, inl, inr, add-one, arith}
-use Rattle.std.proofs.lemmas.List.{append-nil, append_assoc, length-append, get_or_append_left, get_or-append_right}
+use Rattle.std.proofs.lemmas.List.{append-nil, length-append, get_or_append_left, get_or-append_right}
 use Rattle.std.proofs.lemmas.Bool.{cond-true, cond-false, cases_lt}
 use Rattle.evaluate.specs.Lists.{tally, passing}
 
@@ -12,16 +12,13 @@ pub passing_suc : (p : ℕ → Bool) (n : ℕ) → passing (n + 1) p ≡ passing
 unfolding passing
 passing_suc p n = rw add-one refl
 
-module _ (p : ℕ → Bool) (n : ℕ) (before now : List ℕ) (e : now ≡ before ++ passing n p) where
-  -- a loop that pushes those that pass
-  pub passing_more : (after : List ℕ) → p n ≡ true → after ≡ now ++ n ∷ [] → after ≡ before ++ passing (n + 1) p
-  passing_more after t f =
-      f ∙ ap (λ l. l ++ n ∷ []) e ∙ append_assoc before (passing n p) (n ∷ [])
-      ∙ ap (λ l. before ++ l) (sym (passing_suc p n ∙ ap (λ l. passing n p ++ l) (cond-true (p n) (n ∷ []) [] t)))
+-- a loop that pushes those that pass
+module _ (p : ℕ → Bool) (n : ℕ) (now : List ℕ) (e : now ≡ passing n p) where
+  pub passing_more : (after : List ℕ) → p n ≡ true → after ≡ now ++ n ∷ [] → after ≡ passing (n + 1) p
+  passing_more after t f = f ∙ ap (λ l. l ++ n ∷ []) e ∙ sym (passing_suc p n ∙ ap (λ l. passing n p ++ l) (cond-true (p n) (n ∷ []) [] t))
 
-  pub passing_same : p n ≡ false → now ≡ before ++ passing (n + 1) p
-  passing_same t =
-      e ∙ ap (λ l. before ++ l) (sym (passing_suc p n ∙ ap (λ l. passing n p ++ l) (cond-false (p n) (n ∷ []) [] t) ∙ append-nil (passing n p)))
+  pub passing_same : p n ≡ false → now ≡ passing (n + 1) p
+  passing_same t = e ∙ sym (passing_suc p n ∙ ap (λ l. passing n p ++ l) (cond-false (p n) (n ∷ []) [] t) ∙ append-nil (passing n p))
 
 bit_length : (b : Bool) (n : ℕ) → length (cond b (n ∷ []) []) ≡ cond b 1 0
 bit_length true n = refl
@@ -48,23 +45,4 @@ passing_below p (suc n) i h =
       | inr l ↦
           let k : i - length (passing n p) < length (cond (p n) (n ∷ []) []) = omega (arith, length-append (passing n p) (cond (p n) (n ∷ []) [])) in
           omega (arith, get_or-append_right (passing n p) (cond (p n) (n ∷ []) []) (length (passing n p)) i 0 refl l, bit_below (p n) n (i - length (passing n p)) k)
-    ]
-
--- all numbers below n
-abbrev pub every : ℕ → List ℕ
-every n = passing n (λ _. true)
-
-pub every_length : (n : ℕ) → length (every n) ≡ n
-unfolding passing
-every_length zero = refl
-every_length (suc n) = omega (arith, length-append (every n) (n ∷ []), every_length n)
-
-pub every_at : (n i : ℕ) → i < n → get_or (every n) i 0 ≡ i
-unfolding passing
-every_at zero i h = absurd (omega arith)
-every_at (suc n) i h =
-    elim (cases_lt i n) [
-      | inl l ↦ let k : i < length (every n) = omega (arith, every_length n) in get_or_append_left (every n) (n ∷ []) 0 i k ∙ every_at n i l
-      | inr l ↦ let e : i ≡ n = omega arith in
-          get_or-append_right (every n) (n ∷ []) n i 0 (every_length n) l ∙ ap (λ k. get_or (n ∷ []) k 0) (let z : i - n ≡ 0 = omega arith in z) ∙ sym e
     ]

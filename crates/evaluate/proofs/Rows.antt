@@ -1,10 +1,9 @@
 -- Rows of a list, where places of one of them are written.
-use Rattle.std.proofs.Common.{◌≡◌, ℕ, ◌+◌, ◌-◌, ◌*◌, ◌<◌, ◌≤◌, List, length, get_or, take, drop, set, sym, ap, ◌∙◌, inl, inr, arith}
-use lib.Seq.{take-set-lt}
+use Rattle.std.proofs.Common.{◌≡◌, ℕ, ◌+◌, ◌-◌, ◌*◌, ◌<◌, ◌≤◌, List, length, get_or, take, drop, sym, ap, ◌∙◌, inl, inr, arith}
 use Rattle.std.specs.List.{between}
-use Rattle.std.proofs.lemmas.List.{get_or-take, get_or-drop, length-take, length-drop, drop-set-add, same_lists, get_or-set_other}
+use Rattle.std.proofs.lemmas.List.{get_or-take, get_or-drop, length-take, length-drop, same_lists}
 use Rattle.std.proofs.lemmas.Bool.{cases_order}
-use Rattle.evaluate.specs.Grids.{row, place, last_round, Outside, KeptBut, KeptButLast, KeptPast}
+use Rattle.evaluate.specs.Grids.{row, place, last_round, Outside, KeptButLast, KeptPast}
 
 -- places of two rows differ
 pub rows_apart : (j k a b : ℕ) → a < 512 → b < 512 → (j ≡ k → ⊥) → place j a ≡ place k b → ⊥
@@ -22,10 +21,6 @@ module _ {X : Type 0} (n : ℕ) (xs : List X) where
   pub row_length : (j : ℕ) → j * 512 + n ≤ length xs → length (row n xs j) ≡ n
   unfolding row
   row_length j h = omega (arith, length-take n (drop (j * 512) xs), length-drop (j * 512) xs)
-
-  pub row_set_same : (j a : ℕ) (v : X) → a < n → row n (set xs (place j a) v) j ≡ set (row n xs j) a v
-  unfolding row
-  row_set_same j a v h = ap (take n) (drop-set-add (j * 512) xs a v) ∙ take-set-lt n (drop (j * 512) xs) a v h
 
   -- a row stays where its places do
   pub row_same : (ys : List X) (k : ℕ) → length ys ≡ length xs → k * 512 + n ≤ length xs → ((a : ℕ) (d : X) → a < n → get_or ys (place k a) d ≡ get_or xs (place k a) d) → row n ys k ≡ row n xs k
@@ -45,10 +40,3 @@ module _ {X : Type 0} (n : ℕ) (xs : List X) where
 
     pub row_kept_past : (horizon : ℕ) → horizon < k → (k ≡ last_round → ⊥) → KeptPast n horizon xs ys → row n ys k ≡ row n xs k
     row_kept_past horizon past ne kept = row_same ys k e long (λ a d h. kept (place k a) d (λ j l. outside j a (λ p. omega arith) h) (outside last_round a ne h))
-
-  pub row_kept : (ys : List X) (level k : ℕ) → n ≤ 512 → length ys ≡ length xs → k * 512 + n ≤ length xs → (k ≡ level → ⊥) → KeptBut n level xs ys → row n ys k ≡ row n xs k
-  row_kept ys level k small e long ne kept = row_same ys k e long (λ a d h. kept (place k a) d (outside ys k small e long level a ne h))
-
-  -- one place of a row is written
-  pub set_kept : (ys zs : List X) (level a : ℕ) (v : X) → a < n → KeptBut n level xs ys → zs ≡ set ys (place level a) v → KeptBut n level xs zs
-  set_kept ys zs level a v h kept e i d out = ap (λ l. get_or l i d) e ∙ get_or-set_other ys (place level a) i v d (out a h) ∙ kept i d out

@@ -1,7 +1,7 @@
 -- What is shown of a position and a joint move.
-use Rattle.std.proofs.Common.{◌≡◌, ℕ, ◌+◌, ◌-◌, ◌<◌, ◌≤◌, Bool, true, false, cond, not, ◌&&◌, ◌||◌, eqb, ltb, ◌⊎◌, List, [], ◌∷◌, map, length, get_or, drop, set, sym, refl, ap, ◌∙◌, subst, ap₂, inl, inr, arith}
-use Rattle.std.proofs.lemmas.List.{drop_more, drop_all, get_or-map, get_or-set_same, get_or-set_other}
-use Rattle.std.proofs.lemmas.Bool.{cases_eq, cases_lt, cond-true, lt-ltb, le-ltb, eq-eqb, ne_eqb}
+use Rattle.std.proofs.Common.{◌≡◌, ℕ, ◌+◌, ◌-◌, ◌<◌, Bool, true, false, cond, not, ◌&&◌, ◌||◌, eqb, ltb, List, [], ◌∷◌, map, length, get_or, sym, refl, ap, ◌∙◌, subst, ap₂, inl, inr, arith}
+use Rattle.std.proofs.lemmas.List.{get_or-map}
+use Rattle.std.proofs.lemmas.Bool.{cases_eq, eq-eqb, ne_eqb}
 use Rattle.truth.specs.Forms.{only_no, Meaning}
 use Rattle.truth.specs.Kleene.{flip, meet, join}
 use Rattle.truth.specs.Three.{Only, here, means}
@@ -15,19 +15,14 @@ use Rattle.evaluate.specs.Evaluate.{bool_ops, look}
 use Rattle.evaluate.specs.Levels.{level_of}
 use Rattle.evaluate.specs.Meanings.{kleene_each}
 use Rattle.evaluate.specs.Positions.{fluents, choices, does_at, Position, holds_in, Joint, done, pick, does, ModelOf}
-use Rattle.evaluate.specs.Showing.{answer, numbers, moves_fit, chosen}
+use Rattle.truth.specs.Three.{answer}
+use Rattle.evaluate.specs.Showing.{numbers, moves_fit, chosen}
 use Rattle.evaluate.proofs.Fitting.{enough}
 use Rattle.evaluate.proofs.Givens.{level_alike}
 use Rattle.evaluate.proofs.Related.{Keeps}
 use Rattle.evaluate.proofs.Standing.{level_model}
 
 -- moves, role by role
-pub fit_step : (ns ms : List ℕ) (i : ℕ) → i < length ns → i < length ms → moves_fit (drop i ns) (drop i ms) ≡ within 1 (get_or ns i 0) (get_or ms i 0) && moves_fit (drop (i + 1) ns) (drop (i + 1) ms)
-fit_step ns ms i h k = ap₂ moves_fit (drop_more ns i 0 h) (drop_more ms i 0 k)
-
-pub fit_end : (ns ms : List ℕ) (i : ℕ) → length ns ≤ i → length ms ≤ i → moves_fit (drop i ns) (drop i ms) ≡ true
-fit_end ns ms i h k = ap₂ moves_fit (drop_all i ns h) (drop_all i ms k)
-
 pub fit_lengths : (ns ms : List ℕ) → (length ns ≡ length ms → ⊥) → moves_fit ns ms ≡ false
 fit_lengths [] [] ne = absurd (ne refl)
 fit_lengths [] (m ∷ ms) ne = refl
@@ -41,31 +36,12 @@ fit_lengths (n ∷ ns) (m ∷ ms) ne = ap (λ b. within 1 n m && b) (fit_lengths
 pub fit_length : (ns ms : List ℕ) → moves_fit ns ms ≡ true → length ns ≡ length ms
 fit_length ns ms e = elim (cases_eq (length ns) (length ms)) [ inl p ↦ p | inr p ↦ absurd (let z : false ≡ true = sym (fit_lengths ns ms p) ∙ e in let y : ◌≡◌ {A = ℕ} 0 1 = cc in omega arith) ]
 
-pub chosen_step : (ns ms : List ℕ) (i k : ℕ) → i < length ns → i < length ms → chosen (drop i ns) (drop i ms) k ≡ cond (ltb k (get_or ns i 0)) (eqb (k + 1) (get_or ms i 0)) (chosen (drop (i + 1) ns) (drop (i + 1) ms) (k - get_or ns i 0))
-chosen_step ns ms i k h l = ap₂ (λ x y. chosen x y k) (drop_more ns i 0 h) (drop_more ms i 0 l)
-
-pub chosen_end : (ns ms : List ℕ) (i k : ℕ) → length ns ≤ i → chosen (drop i ns) (drop i ms) k ≡ false
-chosen_end ns ms i k h = ap (λ x. chosen x (drop i ms) k) (drop_all i ns h)
-
 same_number : (k m : ℕ) → eqb (k + 1) (m + 1) ≡ eqb k m
 same_number k m = elim (cases_eq k m) [ inl e ↦ eq-eqb (k + 1) (m + 1) (ap (λ i. i + 1) e) ∙ sym (eq-eqb k m e) | inr e ↦ ne_eqb (k + 1) (m + 1) (λ p. e (omega arith)) ∙ sym (ne_eqb k m e) ]
 
 pub chosen_does : {ns : List ℕ} (A : Joint ns) (k : ℕ) → chosen ns (numbers A) k ≡ does A k
 chosen_does done k = refl
 chosen_does (pick {n = n} {ns = ns} m h j) k = ap₂ (λ x y. cond (ltb k n) x y) (same_number k m) (chosen_does j (k - n))
-
--- entries written from the front
-pub front_more : {X : Type 0} (f : ℕ → X) (was xs : List X) (i : ℕ) (v : X) → i < length xs → v ≡ f i
-    → ((a : ℕ) (d : X) → get_or xs a d ≡ cond (ltb a i) (f a) (get_or was a d)) → (a : ℕ) (d : X) → get_or (set xs i v) a d ≡ cond (ltb a (i + 1)) (f a) (get_or was a d)
-front_more f was xs i v h e old a d =
-    elim (cases_eq a i) [
-      | inl p ↦ ap (λ k. get_or (set xs i v) k d) p ∙ get_or-set_same xs i v d h ∙ e ∙ ap f (sym p) ∙ sym (cond-true (ltb a (i + 1)) _ _ (lt-ltb a (i + 1) (omega arith)))
-      | inr p ↦ get_or-set_other xs i a v d p ∙ old a d ∙ ap (λ (t : Bool). cond t (f a) (get_or was a d)) (same_test (cases_lt a i) p)
-    ]
-  where
-    same_test : (a < i) ⊎ (i ≤ a) → (a ≡ i → ⊥) → ltb a i ≡ ltb a (i + 1)
-    same_test (inl l) p = lt-ltb a i l ∙ sym (lt-ltb a (i + 1) (omega arith))
-    same_test (inr l) p = let q : i + 1 ≤ a = elim (cases_lt i a) [ inl m ↦ omega arith | inr m ↦ absurd (p (omega arith)) ] in le-ltb a i l ∙ sym (le-ltb a (i + 1) q)
 
 -- Kleene's operations on settled values are those on answers
 just_not : (b : Bool) → flip (just b) ≡ just (not b)

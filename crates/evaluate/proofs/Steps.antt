@@ -1,5 +1,5 @@
 -- Rounds and strata, one more on.
-use Rattle.std.proofs.Common.{◌≡◌, ℕ, ◌+◌, List, refl, ap, ap₂, add-one}
+use Rattle.std.proofs.Common.{◌≡◌, ℕ, ◌+◌, List, sym, refl, ap, ◌∙◌, ap₂, add-one}
 use Rattle.evaluate.specs.Lists.{tally}
 use Rattle.evaluate.specs.Program.{Program}
 use Rattle.evaluate.specs.Evaluate.{Ops, in_stratum, round, cleared, rounds, stratum_done, up_to, evaluated}
@@ -21,9 +21,12 @@ module _ {V : Type 0} (o : Ops V) (P : Program) where
   unfolding up_to
   up_to_none vs = refl
 
-  pub up_to_next : (s : ℕ) (vs : List V) → stratum_done o P (s + 1) (up_to o P s vs) ≡ up_to o P (s + 1) vs
+  up_to_suc : (s : ℕ) (vs : List V) → stratum_done o P (s + 1) (up_to o P s vs) ≡ up_to o P (s + 1) vs
   unfolding up_to
-  up_to_next s vs = rw add-one refl
+  up_to_suc s vs = rw add-one refl
+
+  pub up_to_next : (k s n : ℕ) (vs : List V) → s ≡ k + 1 → n ≡ s → stratum_done o P s (up_to o P k vs) ≡ up_to o P n vs
+  up_to_next k s n vs e f = ap (λ i. stratum_done o P i (up_to o P k vs)) e ∙ up_to_suc k vs ∙ ap (λ i. up_to o P i vs) (sym (f ∙ e))
 
   pub evaluated_is : (n : ℕ) (vs : List V) → n ≡ P.strata → up_to o P n vs ≡ evaluated o P vs
   unfolding evaluated

@@ -1,15 +1,10 @@
 -- What people are shown of a position and a joint move: which atoms are true.
 use Rattle.std.specs.Prelude.{ℕ, ◌+◌, ◌-◌, ◌*◌, Bool, true, false, cond, ◌&&◌, List, [], ◌∷◌, length, ◌==◌, nat_le, nat_lt}
 use Rattle.truth.specs.declared.three.Three.{Three}
-use Rattle.truth.specs.declared.three.Three.TheVariants.{Yes, No}
 use Rattle.rules.specs.declared.opened.Rules.{Rules}
 use Rattle.rules.specs.First.{within}
 use Rattle.rules.specs.Opens.{moves_of}
 use Rattle.evaluate.specs.Positions.{fluents, Joint, done, pick}
-
-abbrev pub answer : Bool → Three
-answer true = Yes
-answer false = No
 
 -- the moves of a joint move by role, as people number them: from 1
 abbrev pub numbers : {ns : List ℕ} → Joint ns → List ℕ

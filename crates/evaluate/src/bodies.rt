@@ -22,24 +22,8 @@ fn literal<T: TruthForm>(l: Literal, values: &[T]) -> T
     }
 }
 
-// Records by their number.
-fn literal_record(rules: &Rules, number: u16) -> Literal
-    requires above { 0 < number }
-    requires within { number ≤ rules.now.layout.literals }
-    ensures { result ≡ literal_at rules.now number }
-{
-    rules.literals()[usize::from(number) - 1]
-}
-
-fn rule_record(rules: &Rules, number: u16) -> Rule
-    requires above { 0 < number }
-    requires within { number ≤ rules.now.layout.rules }
-    ensures { result ≡ rule_at rules.now number }
-{
-    rules.rules()[usize::from(number) - 1]
-}
-
-// The value of the body that starts at literal `first`.
+// The value of the body that starts at literal `first`. The file chains literals and rules by number, so a walk is a loop: an iterator
+// of its own over a chain would need the same bounds, and its laws besides.
 fn body<T: TruthForm>(rules: &Rules, first: u16, values: &[T]) -> T
     requires first { first ≤ rules.now.layout.literals }
     requires values { length values.now ≡ length (atoms_of rules.now) }
@@ -48,7 +32,7 @@ fn body<T: TruthForm>(rules: &Rules, first: u16, values: &[T]) -> T
     let mut all = T::yes();
     let mut at = first;
     while at != 0 {
-        let l = literal_record(rules, at);
+        let l = rules.literals()[usize::from(at) - 1];
         all = all.and(literal(l, values));
         at = l.next;
     }
@@ -64,7 +48,7 @@ pub fn any_body<T: TruthForm>(rules: &Rules, first: u16, values: &[T]) -> T
     let mut any = T::no();
     let mut at = first;
     while at != 0 {
-        let r = rule_record(rules, at);
+        let r = rules.rules()[usize::from(at) - 1];
         any = any.or(body(rules, r.first, values));
         at = r.next;
     }

@@ -1,20 +1,21 @@
-ghost use Rattle.std.specs.Prelude.{◌≡◌, ◌<◌, ◌++◌, IfOk, OnOk};
+ghost use Rattle.std.specs.Prelude.{◌≡◌, ◌<◌, IfOk};
 ghost use Rattle.evaluate.specs.Index.{segment, members as members_of, SortedBy};
 
 use crate::strata::Strata;
 use rules::opened::Rules;
 use std::alloc::{AllocError, Global};
 
-// Adds the atoms of stratum `s`, ascending.
-fn gather(rules: &Rules, s: u16, atoms: &mut Vec<u16>) -> Result<(), AllocError>
-    ensures { OnOk result (atoms.new.items ≡ atoms.old.items ++ members_of rules.now s) }
+// The atoms of stratum `s`, ascending.
+fn gather(heap: Global, rules: &Rules, s: u16) -> Result<Vec<u16>, AllocError>
+    ensures { IfOk result (λ atoms. atoms.items ≡ members_of rules.now s) }
 {
-    for atom in 0..rules.layout().atoms {
-        if rules.atoms()[usize::from(atom)].stratum == s {
-            atoms.push(atom)?;
+    let mut members = Vec::new(heap);
+    for (atom, record) in rules.atoms().iter().enumerate() {
+        if record.stratum == s {
+            members.push(atom as u16)?;
         }
     }
-    Ok(())
+    Ok(members)
 }
 
 impl Strata {
@@ -22,14 +23,11 @@ impl Strata {
     pub fn of(heap: Global, rules: &Rules) -> Result<Strata, AllocError>
         ensures { IfOk result (λ strata. SortedBy rules.now strata) }
     {
-        let mut atoms = Vec::new(heap);
-        let mut starts = Vec::new(heap);
-        starts.push(0usize)?;
+        let mut members = Vec::new(heap);
         for s in 0..32u16 {
-            gather(rules, s, &mut atoms)?;
-            starts.push(atoms.len())?;
+            members.push(gather(heap, rules, s)?)?;
         }
-        Ok(Strata { atoms, starts })
+        Ok(Strata { members })
     }
 
     // The atoms of stratum `s`, ascending.
@@ -37,8 +35,6 @@ impl Strata {
         requires { s < 32 }
         ensures { result.now ≡ segment self.now s }
     {
-        let from = self.starts[usize::from(s)];
-        let to = self.starts[usize::from(s) + 1];
-        &self.atoms.as_slice()[from..to]
+        self.members[usize::from(s)].as_slice()
     }
 }

@@ -1,34 +1,35 @@
-ghost use Rattle.std.specs.Prelude.{◌≡◌, ℕ, ◌+◌, ◌<◌, ◌≤◌, Bool, true, false, map, length, is_some, if◌then◌else◌, nat_lt, slice_index_or};
+ghost use Rattle.std.specs.Prelude.{◌≡◌, ℕ, ◌+◌, ◌<◌, ◌≤◌, Bool, true, false, map, length, is_ok, if◌then◌else◌, nat_lt, slice_index_or};
 ghost use Rattle.truth.specs.declared.three.Three.TheVariants.{No};
 ghost use Rattle.rules.specs.Opens.{moves_of};
 ghost use Rattle.evaluate.specs.Indexing.{indexed_rules, size};
 ghost use Rattle.evaluate.specs.Positions.{fluents, choices, does_at, Joint, ModelOf};
-ghost use Rattle.evaluate.specs.Showing.{answer as answer_of, numbers, moves_fit as moves_fitting, chosen as chosen_of, shows};
+ghost use Rattle.truth.specs.Three.{answer as answer_of};
+ghost use Rattle.evaluate.specs.Showing.{numbers, moves_fit as moves_fitting, chosen as chosen_of, shows};
 ghost use Rattle.evaluate.specs.Evaluate.{look};
 ghost use Rattle.evaluate.specs.Grids.{Roomy, row as row_of};
 ghost use Rattle.evaluate.specs.Levels.{level_of};
 ghost use Rattle.evaluate.specs.Meanings.{meanings};
 
-use crate::grid::{Grid, WIDTH};
+use crate::grid::WIDTH;
 use crate::indexed::Indexed;
 use truth::form::TruthForm;
 use truth::three::Three;
 
-fn settled(answer: bool) -> Three
-    ensures { result ≡ answer_of answer }
-{
-    if answer { Three::Yes } else { Three::No }
-}
+// What keeps a position and a joint move from being shown: there is not an entry for each fluent and a move for each role, or too
+// little room for the values.
+#[derive(Clone, Copy, PartialEq, Eq, Debug)]
+pub struct Misfit;
 
 // Whether there is one move for each role, numbered from 1, and each is one of its moves.
+#[tactic(auto, using(crate::proofs::Shown::fit_lengths))]
 fn moves_fit(moves: &[u16], joint: &[u16]) -> bool
     ensures { result ≡ moves_fitting moves.now joint.now }
 {
     if moves.len() != joint.len() {
         return false;
     }
-    for role in 0..moves.len() {
-        if joint[role] == 0 || joint[role] > moves[role] {
+    for (count, number) in moves.iter().zip(joint) {
+        if *number == 0 || *number > *count {
             return false;
         }
     }
@@ -41,10 +42,10 @@ fn chosen(moves: &[u16], joint: &[u16], k: usize) -> bool
     ensures { result ≡ chosen_of moves.now joint.now k }
 {
     let mut left = k;
-    for role in 0..moves.len() {
-        let count = usize::from(moves[role]);
+    for (count, number) in moves.iter().zip(joint) {
+        let count = usize::from(*count);
         if left < count {
-            return left + 1 == usize::from(joint[role]);
+            return left + 1 == usize::from(*number);
         }
         left -= count;
     }
@@ -56,8 +57,8 @@ fn put_position(position: &[bool], values: &mut [Three])
     requires { length position.now ≤ length values.old }
     ensures { (a : ℕ) (d : Three) → slice_index_or values.new a d ≡ (if nat_lt a (length position.now) then answer_of (slice_index_or position.now a false) else slice_index_or values.old a d) }
 {
-    for f in 0..position.len() {
-        values[f] = settled(position[f]);
+    for (f, value) in values[..position.len()].iter_mut().enumerate() {
+        *value = Three::from(position[f]);
     }
 }
 
@@ -70,43 +71,33 @@ fn put_moves(rules: Indexed<'_>, joint: &[u16], values: &mut [Three])
 {
     let layout = rules.rules.layout();
     let from = 2 * usize::from(layout.fluents);
-    for k in 0..usize::from(layout.moves) {
-        values[from + k] = settled(chosen(rules.rules.moves(), joint, k));
+    let to = from + usize::from(layout.moves);
+    for (k, value) in values[from..to].iter_mut().enumerate() {
+        *value = Three::from(chosen(rules.rules.moves(), joint, k));
     }
 }
 
-// Evaluates level 0 of the lent values.
-fn first_level<T: TruthForm>(rules: Indexed<'_>, values: &mut [T])
-    requires { Roomy values.old }
-    ensures values { map T.means (row_of (size rules.entry) values.new 0) ≡ level_of (meanings T.neg T.conj T.disj) (indexed_rules rules.entry) (look (meanings T.neg T.conj T.disj) (map T.means (row_of (size rules.entry) values.old 0))) (λ k. look (meanings T.neg T.conj T.disj) (map T.means (row_of (size rules.entry) values.old 0)) (does_at (indexed_rules rules.entry) k)) }
-    ensures len { length values.new ≡ length values.old }
-{
-    let mut grid = Grid { values };
-    grid.evaluate(rules, 0);
-}
-
 // Which atoms are true in a position when a joint move is made, its moves numbered from 1 by role: the value of atom a, counted
-// from 0, is left at a. None if there is not an entry for each fluent and a move for each role, or too little room; then nothing
-// is written.
+// from 0, is left at a. If they do not fit, nothing is written.
 pub fn model(
     rules: Indexed<'_>,
     position: &[bool],
     joint: &[u16],
     values: &mut [Three],
-) -> Option<()>
-    ensures shown { is_some result ≡ shows (indexed_rules rules.entry) position.now joint.now values.old }
-    ensures refused { is_some result ≡ false → values.new ≡ values.old }
-    ensures standard { is_some result ≡ true → (A : Joint (moves_of (indexed_rules rules.entry))) → numbers A ≡ joint.now → (M : ℕ → Bool) → ModelOf (indexed_rules rules.entry) position.now A M → (a : ℕ) → a < size rules.entry → slice_index_or values.new a No ≡ answer_of (M a) }
+) -> Result<(), Misfit>
+    ensures shown { is_ok result ≡ shows (indexed_rules rules.entry) position.now joint.now values.old }
+    ensures refused { is_ok result ≡ false → values.new ≡ values.old }
+    ensures standard { is_ok result ≡ true → (A : Joint (moves_of (indexed_rules rules.entry))) → numbers A ≡ joint.now → (M : ℕ → Bool) → ModelOf (indexed_rules rules.entry) position.now A M → (a : ℕ) → a < size rules.entry → slice_index_or values.new a No ≡ answer_of (M a) }
 {
     let fluents = usize::from(rules.rules.layout().fluents);
     if position.len() != fluents
         || values.len() < 6 * WIDTH
         || !moves_fit(rules.rules.moves(), joint)
     {
-        return None;
+        return Err(Misfit);
     }
     put_position(position, values);
     put_moves(rules, joint, values);
-    first_level(rules, values);
-    Some(())
+    rules.evaluate(values, 0);
+    Ok(())
 }

@@ -37,7 +37,7 @@ fn truths(
         strata: &strata,
     };
     let mut values = vec![in heap; Three::Open; VALUES]?;
-    assert!(rt; model(indexed, position, joint, values.as_mut_slice()).is_some());
+    assert!(rt; model(indexed, position, joint, values.as_mut_slice()).is_ok());
     Ok(bits(values.as_slice()))
 }
 
@@ -91,9 +91,9 @@ fn what_does_not_fit_is_refused(rt: HostRuntime) -> Result<(), Fail> {
         (&[true, false][..], &[3][..]),
         (&[true, false][..], &[1, 1][..]),
     ] {
-        assert!(rt; model(indexed, position, joint, values.as_mut_slice()).is_none());
+        assert!(rt; model(indexed, position, joint, values.as_mut_slice()).is_err());
     }
     let mut few = vec![in heap; Three::Open; 3071]?;
-    assert!(rt; model(indexed, &[true, false], &[1], few.as_mut_slice()).is_none());
+    assert!(rt; model(indexed, &[true, false], &[1], few.as_mut_slice()).is_err());
     Ok(())
 }

@@ -2,243 +2,294 @@
 use rules::faults::Fault;
 use rules::kinds::Kind;
 use rules::layout::Layout;
-use std::alloc::{AllocError, Global};
+use std::fmt;
 
 // The word at an offset in bytes.
 pub fn word(bytes: &[u8], place: usize) -> u16 {
-    let high = bytes.get(place).copied().unwrap_or(0);
-    let low = bytes.get(place.saturating_add(1)).copied().unwrap_or(0);
-    u16::from(high) * 256 + u16::from(low)
+    match bytes.get(place..) {
+        Some([high, low, ..]) => u16::from_be_bytes([*high, *low]),
+        _ => 0,
+    }
 }
 
 // The header of a file, with the moves of its roles together.
 fn layout(bytes: &[u8]) -> Layout {
     let roles = word(bytes, 4);
-    let mut moves: u16 = 0;
-    for role in 0..roles.min(8) {
-        moves = moves.saturating_add(word(bytes, 12 + 2 * usize::from(role)));
-    }
     Layout {
         fluents: word(bytes, 2),
         roles,
         atoms: word(bytes, 6),
         rules: word(bytes, 8),
         literals: word(bytes, 10),
-        moves,
+        moves: (0..roles.min(8))
+            .map(|role| word(bytes, 12 + 2 * usize::from(role)))
+            .fold(0, |moves: u16, count| moves.saturating_add(count)),
     }
 }
 
-pub fn explain(heap: Global, fault: Fault, bytes: &[u8]) -> Result<String, AllocError> {
-    match fault {
-        Fault::TooShort(length) => format!(in heap;
-            "the file has {length} bytes; a rule file has at least the 12 bytes of its header"
-        ),
-        Fault::Version => {
-            let found = word(bytes, 0);
-            format!(in heap; "the version is {found}; it must be 1")
-        }
-        Fault::Count(place) => count(heap, place, word(bytes, place)),
-        Fault::Length(length) => {
-            let needed = size(layout(bytes));
-            format!(in heap;
-                "the file has {length} bytes; the counts of its header ask for {needed}"
-            )
-        }
-        Fault::MoveCount(place) => {
-            let role = place.saturating_sub(10) / 2;
-            let found = word(bytes, place);
-            format!(in heap; "role {role} has {found} moves; it must have 1 to 32")
-        }
-        Fault::FewAtoms => few_atoms(heap, layout(bytes)),
-        Fault::AtomWord(place) => atom_word(heap, bytes, layout(bytes), place),
-        Fault::RuleWord(place) => rule_word(heap, bytes, layout(bytes), place),
-        Fault::LiteralWord(place) => literal_word(heap, bytes, layout(bytes), place),
-        Fault::Condition(head, place) => condition(heap, bytes, layout(bytes), head, place),
+// Where the records of one kind stand: the place of the first, and how many bytes each has.
+#[derive(Clone, Copy)]
+struct Records {
+    start: usize,
+    size: usize,
+}
+
+impl Records {
+    // Where so many records end.
+    fn end(self, count: u16) -> usize {
+        self.start
+            .saturating_add(self.size.saturating_mul(usize::from(count)))
+    }
+
+    // The number from 1 of the record at a place.
+    fn number(self, place: usize) -> u16 {
+        let i = place.saturating_sub(self.start) / self.size.max(1);
+        u16::try_from(i.saturating_add(1)).unwrap_or(u16::MAX)
+    }
+
+    // How far from the beginning of its record a place is.
+    fn offset(self, place: usize) -> usize {
+        place.saturating_sub(self.start) % self.size.max(1)
     }
 }
 
-fn count(heap: Global, place: usize, found: u16) -> Result<String, AllocError> {
-    let (what, low, high) = match place {
-        2 => ("fluents", 1, 64),
-        4 => ("roles", 1, 8),
-        6 => ("atoms", 1, 512),
-        8 => ("rules", 0, 2048),
-        _ => ("literals", 0, 8000),
-    };
-    format!(in heap; "the header counts {found} {what}; there must be {low} to {high}")
-}
-
-// Where the records of atoms, rules and literals begin, and how long the file is, in bytes.
-fn atoms_at(layout: Layout) -> usize {
-    2 * (6 + usize::from(layout.roles))
-}
-
-fn rules_at(layout: Layout) -> usize {
-    atoms_at(layout).saturating_add(6 * usize::from(layout.atoms))
-}
-
-fn literals_at(layout: Layout) -> usize {
-    rules_at(layout).saturating_add(4 * usize::from(layout.rules))
-}
-
-fn size(layout: Layout) -> usize {
-    literals_at(layout).saturating_add(6 * usize::from(layout.literals))
-}
-
-fn few_atoms(heap: Global, layout: Layout) -> Result<String, AllocError> {
-    let Layout {
-        fluents,
-        roles: _,
-        atoms,
-        rules: _,
-        literals: _,
-        moves,
-    } = layout;
-    let least = 2 * usize::from(fluents) + 2 * usize::from(moves) + 1;
-    format!(in heap;
-        "the header counts {atoms} atoms; {fluents} fluents and {moves} moves need at least {least}"
-    )
-}
-
-// The number from 1 of the record at a place, for records of so many bytes.
-fn record(place: usize, start: usize, bytes: usize) -> u16 {
-    let i = place.saturating_sub(start) / bytes.max(1);
-    u16::try_from(i.saturating_add(1)).unwrap_or(u16::MAX)
-}
-
-fn atom_word(
-    heap: Global,
-    bytes: &[u8],
+// A fault of the rule file with these bytes.
+#[derive(Clone, Copy)]
+pub struct Explanation<'a> {
+    fault: Fault,
+    bytes: &'a [u8],
     layout: Layout,
-    place: usize,
-) -> Result<String, AllocError> {
-    let start = atoms_at(layout);
-    let number = record(place, start, 6);
-    let name = kind_name(layout.kind(number));
-    let found = word(bytes, place);
-    let rules = layout.rules;
-    let given = matches!(layout.kind(number), Kind::Fluent | Kind::Does);
-    match place.saturating_sub(start) % 6 {
-        0 if given => format!(in heap;
-            "atom record {number} ({name}) has stratum {found}; it must be 0"
-        ),
-        0 => format!(in heap;
-            "atom record {number} ({name}) has stratum {found}; it must be 1 to 31"
-        ),
-        2 => {
-            let allowed = allowed_marks(layout.kind(number));
-            format!(in heap; "atom record {number} ({name}) has mark {found}; it must be {allowed}")
+}
+
+impl fmt::Display for Explanation<'_> {
+    fn fmt<W: fmt::Write>(&self, f: &mut fmt::Formatter<W>) -> fmt::Result {
+        match self.fault {
+            Fault::TooShort(length) => write!(
+                f,
+                "the file has {length} bytes; a rule file has at least the 12 bytes of its header"
+            ),
+            Fault::Version => write!(f, "the version is {}; it must be 1", self.word(0)),
+            Fault::Count(place) => self.count(f, place),
+            Fault::Length(length) => write!(
+                f,
+                "the file has {length} bytes; the counts of its header ask for {}",
+                self.literals().end(self.layout.literals)
+            ),
+            Fault::MoveCount(place) => write!(
+                f,
+                "role {} has {} moves; it must have 1 to 32",
+                place.saturating_sub(10) / 2,
+                self.word(place)
+            ),
+            Fault::FewAtoms => self.few_atoms(f),
+            Fault::AtomWord(place) => self.atom_word(f, place),
+            Fault::RuleWord(place) => self.rule_word(f, place),
+            Fault::LiteralWord(place) => self.literal_word(f, place),
+            Fault::Condition(head, place) => self.condition(f, head, place),
         }
-        _ if given => format!(in heap;
-            "atom record {number} ({name}) has first rule {found}; it must be 0"
-        ),
-        _ => format!(in heap;
-            "atom record {number} ({name}) has first rule {found}; it must be 0 to {rules}"
-        ),
     }
 }
 
-fn kind_name(kind: Kind) -> &'static str {
-    match kind {
-        Kind::Fluent => "a fluent",
-        Kind::Next => "a next atom",
-        Kind::Does => "a does atom",
-        Kind::Legal => "a legal atom",
-        Kind::Terminal => "terminal",
-        Kind::Further => "a further atom",
+impl Explanation<'_> {
+    pub fn new(fault: Fault, bytes: &[u8]) -> Explanation<'_> {
+        Explanation {
+            fault,
+            bytes,
+            layout: layout(bytes),
+        }
     }
-}
 
-fn allowed_marks(kind: Kind) -> &'static str {
-    match kind {
-        Kind::Fluent => "0, or 2 where it is true at the start",
-        Kind::Next | Kind::Does => "1",
-        Kind::Legal | Kind::Terminal => "0",
-        Kind::Further => "0 or 1",
+    fn word(self, place: usize) -> u16 {
+        word(self.bytes, place)
     }
-}
 
-fn rule_word(
-    heap: Global,
-    bytes: &[u8],
-    layout: Layout,
-    place: usize,
-) -> Result<String, AllocError> {
-    let start = rules_at(layout);
-    let number = record(place, start, 4);
-    let found = word(bytes, place);
-    if place.saturating_sub(start) % 4 == 0 {
-        let rules = layout.rules;
-        format!(in heap;
-            "rule record {number} has next rule {found}; it must be 0, or above {number} and at most {rules}"
-        )
-    } else {
-        let literals = layout.literals;
-        format!(in heap;
-            "rule record {number} has first literal {found}; it must be 0 to {literals}"
+    fn atoms(self) -> Records {
+        Records {
+            start: 2 * (6 + usize::from(self.layout.roles)),
+            size: 6,
+        }
+    }
+
+    fn rules(self) -> Records {
+        Records {
+            start: self.atoms().end(self.layout.atoms),
+            size: 4,
+        }
+    }
+
+    fn literals(self) -> Records {
+        Records {
+            start: self.rules().end(self.layout.rules),
+            size: 6,
+        }
+    }
+
+    fn count<W: fmt::Write>(self, f: &mut fmt::Formatter<W>, place: usize) -> fmt::Result {
+        let (what, low, high) = match place {
+            2 => ("fluents", 1, 64),
+            4 => ("roles", 1, 8),
+            6 => ("atoms", 1, 512),
+            8 => ("rules", 0, 2048),
+            _ => ("literals", 0, 8000),
+        };
+        let found = self.word(place);
+        write!(
+            f,
+            "the header counts {found} {what}; there must be {low} to {high}"
         )
     }
-}
 
-fn literal_word(
-    heap: Global,
-    bytes: &[u8],
-    layout: Layout,
-    place: usize,
-) -> Result<String, AllocError> {
-    let start = literals_at(layout);
-    let number = record(place, start, 6);
-    let found = word(bytes, place);
-    match place.saturating_sub(start) % 6 {
-        0 => {
-            let atoms = layout.atoms;
-            let first = layout.fluents.saturating_add(1);
-            let last = layout.fluents.saturating_mul(2);
-            format!(in heap;
-                "literal record {number} names atom {found}; it must be 1 to {atoms} and no next atom ({first} to {last})"
-            )
+    fn few_atoms<W: fmt::Write>(self, f: &mut fmt::Formatter<W>) -> fmt::Result {
+        let Layout {
+            fluents,
+            roles: _,
+            atoms,
+            rules: _,
+            literals: _,
+            moves,
+        } = self.layout;
+        let least = 2 * usize::from(fluents) + 2 * usize::from(moves) + 1;
+        write!(
+            f,
+            "the header counts {atoms} atoms; {fluents} fluents and {moves} moves need at least {least}"
+        )
+    }
+
+    fn atom_word<W: fmt::Write>(self, f: &mut fmt::Formatter<W>, place: usize) -> fmt::Result {
+        let number = self.atoms().number(place);
+        let kind = self.layout.kind(number);
+        let found = self.word(place);
+        write!(f, "atom record {number} ({}) has ", KindName(kind))?;
+        let given = matches!(kind, Kind::Fluent | Kind::Does);
+        match self.atoms().offset(place) {
+            0 if given => write!(f, "stratum {found}; it must be 0"),
+            0 => write!(f, "stratum {found}; it must be 1 to 31"),
+            2 => write!(f, "mark {found}; it must be {}", AllowedMarks(kind)),
+            _ if given => write!(f, "first rule {found}; it must be 0"),
+            _ => write!(
+                f,
+                "first rule {found}; it must be 0 to {}",
+                self.layout.rules
+            ),
         }
-        2 => format!(in heap;
-            "literal record {number} has sign {found}; it must be 0 (plain) or 1 (negated)"
-        ),
-        _ => {
-            let literals = layout.literals;
-            format!(in heap;
-                "literal record {number} has next literal {found}; it must be 0, or above {number} and at most {literals}"
-            )
+    }
+
+    fn rule_word<W: fmt::Write>(self, f: &mut fmt::Formatter<W>, place: usize) -> fmt::Result {
+        let number = self.rules().number(place);
+        let found = self.word(place);
+        write!(f, "rule record {number} has ")?;
+        match self.rules().offset(place) {
+            0 => write!(
+                f,
+                "next rule {found}; it must be {}",
+                LaterLink(number, self.layout.rules)
+            ),
+            _ => write!(
+                f,
+                "first literal {found}; it must be 0 to {}",
+                self.layout.literals
+            ),
         }
     }
+
+    fn literal_word<W: fmt::Write>(self, f: &mut fmt::Formatter<W>, place: usize) -> fmt::Result {
+        let number = self.literals().number(place);
+        let found = self.word(place);
+        write!(f, "literal record {number} ")?;
+        match self.literals().offset(place) {
+            0 => {
+                let atoms = self.layout.atoms;
+                let first = self.layout.fluents.saturating_add(1);
+                let last = self.layout.fluents.saturating_mul(2);
+                write!(
+                    f,
+                    "names atom {found}; it must be 1 to {atoms} and no next atom ({first} to {last})"
+                )
+            }
+            2 => write!(f, "has sign {found}; it must be 0 (plain) or 1 (negated)"),
+            _ => write!(
+                f,
+                "has next literal {found}; it must be {}",
+                LaterLink(number, self.layout.literals)
+            ),
+        }
+    }
+
+    // The stratum and mark of an atom.
+    fn stratum_and_mark(self, atom: u16) -> (u16, u16) {
+        let at = self.atoms().end(atom.saturating_sub(1));
+        (self.word(at), self.word(at.saturating_add(2)))
+    }
+
+    fn condition<W: fmt::Write>(
+        self,
+        f: &mut fmt::Formatter<W>,
+        head: u16,
+        place: usize,
+    ) -> fmt::Result {
+        let number = self.literals().number(place);
+        let atom = self.word(place);
+        let negated = self.word(place.saturating_add(2)) == 1;
+        let (head_stratum, head_mark) = self.stratum_and_mark(head);
+        let (stratum, mark) = self.stratum_and_mark(atom);
+        if head_mark != 1 && mark == 1 {
+            return write!(
+                f,
+                "literal record {number} names atom {atom}, to which moves matter, under the still atom {head}; a still atom's rules may name only still atoms"
+            );
+        }
+        if negated {
+            return write!(
+                f,
+                "literal record {number} negates atom {atom} of stratum {stratum} under atom {head} of stratum {head_stratum}; a negated atom's stratum must be lower than the head's"
+            );
+        }
+        write!(
+            f,
+            "literal record {number} names atom {atom} of stratum {stratum} under atom {head} of stratum {head_stratum}; a plain atom's stratum must be at most the head's"
+        )
+    }
 }
 
-// The stratum and mark of an atom.
-fn atom_words(bytes: &[u8], layout: Layout, atom: u16) -> (u16, u16) {
-    let at = atoms_at(layout).saturating_add(6 * usize::from(atom).saturating_sub(1));
-    (word(bytes, at), word(bytes, at.saturating_add(2)))
+// A kind of atoms, as a record is told.
+#[derive(Clone, Copy)]
+struct KindName(Kind);
+
+impl fmt::Display for KindName {
+    fn fmt<W: fmt::Write>(&self, f: &mut fmt::Formatter<W>) -> fmt::Result {
+        f.write_str(match self.0 {
+            Kind::Fluent => "a fluent",
+            Kind::Next => "a next atom",
+            Kind::Does => "a does atom",
+            Kind::Legal => "a legal atom",
+            Kind::Terminal => "terminal",
+            Kind::Further => "a further atom",
+        })
+    }
 }
 
-fn condition(
-    heap: Global,
-    bytes: &[u8],
-    layout: Layout,
-    head: u16,
-    place: usize,
-) -> Result<String, AllocError> {
-    let number = record(place, literals_at(layout), 6);
-    let atom = word(bytes, place);
-    let negated = word(bytes, place.saturating_add(2)) == 1;
-    let (head_stratum, head_mark) = atom_words(bytes, layout, head);
-    let (stratum, mark) = atom_words(bytes, layout, atom);
-    if head_mark != 1 && mark == 1 {
-        return format!(in heap;
-            "literal record {number} names atom {atom}, to which moves matter, under the still atom {head}; a still atom's rules may name only still atoms"
-        );
+// Which marks an atom of the kind may have.
+#[derive(Clone, Copy)]
+struct AllowedMarks(Kind);
+
+impl fmt::Display for AllowedMarks {
+    fn fmt<W: fmt::Write>(&self, f: &mut fmt::Formatter<W>) -> fmt::Result {
+        f.write_str(match self.0 {
+            Kind::Fluent => "0, or 2 where it is true at the start",
+            Kind::Next | Kind::Does => "1",
+            Kind::Legal | Kind::Terminal => "0",
+            Kind::Further => "0 or 1",
+        })
     }
-    if negated {
-        return format!(in heap;
-            "literal record {number} negates atom {atom} of stratum {stratum} under atom {head} of stratum {head_stratum}; a negated atom's stratum must be lower than the head's"
-        );
+}
+
+// What the link of a record may be: its own number, and the number of the last record.
+#[derive(Clone, Copy)]
+struct LaterLink(u16, u16);
+
+impl fmt::Display for LaterLink {
+    fn fmt<W: fmt::Write>(&self, f: &mut fmt::Formatter<W>) -> fmt::Result {
+        let LaterLink(number, last) = *self;
+        write!(f, "0, or above {number} and at most {last}")
     }
-    format!(in heap;
-        "literal record {number} names atom {atom} of stratum {stratum} under atom {head} of stratum {head_stratum}; a plain atom's stratum must be at most the head's"
-    )
 }

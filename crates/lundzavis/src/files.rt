@@ -1,6 +1,5 @@
 // Files of unknown size and origin, read up to a limit.
 use crate::sample::WORKED;
-use rules::faults::Fault;
 use std::fs::OpenFile;
 use std::io::Read;
 use std::{fs, io};
@@ -27,14 +26,6 @@ impl Loaded {
     pub fn length(&self) -> usize {
         usize::try_from(self.length).unwrap_or(self.bytes.len())
     }
-
-    // A fault whose place is the length names the length of the file, also where only its beginning was read.
-    pub fn fault(&self, fault: Fault) -> Fault {
-        match fault {
-            Fault::Length(_) => Fault::Length(self.length()),
-            other => other,
-        }
-    }
 }
 
 // Reads a file, and one byte at most past the limit of a longer one.
@@ -54,6 +45,11 @@ pub fn load(rt: &HostRuntime, path: &str, limit: usize) -> io::Result<Loaded> {
         read
     };
     Ok(Loaded { bytes, length })
+}
+
+// Says why a file cannot be read.
+pub fn unreadable(rt: &HostRuntime, path: &str, e: &io::Error) -> io::Result<()> {
+    println!(rt; "error: cannot read {path}: {e}")
 }
 
 // Says that there is no memory for the value of a rule file.

@@ -1,49 +1,80 @@
-// What an atom's number means, in words.
+// What numbers and parts mean, in words.
+use play::part::Part;
 use rules::kinds::Kind;
 use rules::layout::Layout;
-use std::alloc::{AllocError, Global};
+use std::fmt;
 
-// The role and move, from 1, of place i among the moves of all roles.
-fn role_and_move(counts: &[u16], place: usize) -> (usize, usize) {
-    let mut before = 0usize;
-    for (role, count) in counts.iter().enumerate() {
-        let end = before.saturating_add(usize::from(*count));
-        if place < end {
-            return (
-                role.saturating_add(1),
-                place.saturating_sub(before).saturating_add(1),
-            );
+// A part by its name in calls. `Part` is another crate's type, so its words stand on this one.
+#[derive(Clone, Copy)]
+pub struct PartName(pub Part);
+
+// A word that names no part.
+#[derive(Clone, Copy)]
+pub struct UnknownPart;
+
+impl TryFrom<&str> for PartName {
+    type Error = UnknownPart;
+
+    fn try_from(word: &str) -> Result<PartName, UnknownPart> {
+        match word {
+            "base" => Ok(PartName(Part::Base)),
+            "step" => Ok(PartName(Part::Step)),
+            _ => Err(UnknownPart),
         }
-        before = end;
     }
-    (0, 0)
+}
+
+impl fmt::Display for PartName {
+    fn fmt<W: fmt::Write>(&self, f: &mut fmt::Formatter<W>) -> fmt::Result {
+        f.write_str(match self.0 {
+            Part::Base => "base",
+            Part::Step => "step",
+        })
+    }
 }
 
 // An atom by its number from 1, as `next of fluent 2` or `role 1 does move 2`.
-pub fn atom(
-    heap: Global,
-    layout: Layout,
-    counts: &[u16],
-    number: u16,
-) -> Result<String, AllocError> {
-    let fluents = usize::from(layout.fluents);
-    let moves = usize::from(layout.moves);
-    let at = usize::from(number);
-    match layout.kind(number) {
-        Kind::Fluent => format!(in heap; "fluent {at}"),
-        Kind::Next => {
-            let fluent = at.saturating_sub(fluents);
-            format!(in heap; "next of fluent {fluent}")
+#[derive(Clone, Copy)]
+pub struct AtomName<'a> {
+    pub layout: Layout,
+    // how many moves each role has
+    pub counts: &'a [u16],
+    pub number: u16,
+}
+
+impl AtomName<'_> {
+    // The role and move, from 1, of place i among the moves of all roles.
+    fn role_and_move(self, place: usize) -> (usize, usize) {
+        let mut left = place;
+        for (role, count) in (1..).zip(self.counts) {
+            let count = usize::from(*count);
+            if left < count {
+                return (role, left + 1);
+            }
+            left -= count;
         }
-        Kind::Does => {
-            let (role, choice) = role_and_move(counts, at.saturating_sub(2 * fluents + 1));
-            format!(in heap; "role {role} does move {choice}")
+        (0, 0)
+    }
+}
+
+impl fmt::Display for AtomName<'_> {
+    fn fmt<W: fmt::Write>(&self, f: &mut fmt::Formatter<W>) -> fmt::Result {
+        let fluents = usize::from(self.layout.fluents);
+        let moves = usize::from(self.layout.moves);
+        let at = usize::from(self.number);
+        match self.layout.kind(self.number) {
+            Kind::Fluent => write!(f, "fluent {at}"),
+            Kind::Next => write!(f, "next of fluent {}", at.saturating_sub(fluents)),
+            Kind::Does => {
+                let (role, choice) = self.role_and_move(at.saturating_sub(2 * fluents + 1));
+                write!(f, "role {role} does move {choice}")
+            }
+            Kind::Legal => {
+                let (role, choice) = self.role_and_move(at.saturating_sub(2 * fluents + moves + 1));
+                write!(f, "move {choice} is legal for role {role}")
+            }
+            Kind::Terminal => f.write_str("terminal"),
+            Kind::Further => f.write_str("further atom"),
         }
-        Kind::Legal => {
-            let (role, choice) = role_and_move(counts, at.saturating_sub(2 * fluents + moves + 1));
-            format!(in heap; "move {choice} is legal for role {role}")
-        }
-        Kind::Terminal => String::from_str(heap, "terminal"),
-        Kind::Further => String::from_str(heap, "further atom"),
     }
 }

@@ -1,4 +1,4 @@
-use crate::calls::{Memories, marks, tried};
+use crate::calls::Session;
 use docket::opening::open;
 use play::part::Part;
 use std::io;
@@ -31,14 +31,16 @@ static NOT_BOTH: [u8; 24] = [
     0, 2, 0, 2, 0, 0, 0, 3, 0, 3, 0, 0, 0, 1, 0, 1, 0, 4, 0, 1, 0, 2, 0, 0,
 ];
 
-// Tries two plays on the second worked file against the step of 'not both live and old': from live, a fresh tick and a late one.
+// How the two plays begin: from live, a fresh tick and a late one. Zeros follow.
+static STARTS: [[u8; 3]; 2] = [[1, 0, 1], [1, 0, 2]];
+
+// Tries the two plays on the second worked file against the step of 'not both live and old'.
 pub fn trial(rt: &HostRuntime) -> io::Result<()> {
     let heap = rt.alloc();
-    let mut plays = vec![in heap; 0; 192]?;
-    for (place, byte) in [(0, 1), (2, 1), (96, 1), (98, 2)] {
-        if let Some(b) = plays.get_mut(place) {
-            *b = byte;
-        }
+    let mut plays = Vec::new(heap);
+    for start in STARTS {
+        plays.extend_from_slice(&start)?;
+        plays.extend_from_slice(&[0; 93])?;
     }
     println!(rt;
         "the second worked file, step of 'not both live and old', plays 1 0 1 and 1 0 2:"
@@ -46,21 +48,9 @@ pub fn trial(rt: &HostRuntime) -> io::Result<()> {
     let Ok(docket) = open(heap, &SECOND) else {
         return println!(rt; "error: the second worked file is refused");
     };
-    let mut memories = Memories::new(heap)?;
-    match tried(
-        &docket,
-        Part::Step,
-        &NOT_BOTH,
-        plays.as_slice(),
-        &mut memories,
-    ) {
-        Ok(answer) => marks(
-            rt,
-            docket.rules().layout(),
-            Part::Step,
-            plays.as_slice(),
-            answer,
-        ),
+    let mut session = Session::new(heap, docket)?;
+    match session.tried(Part::Step, &NOT_BOTH, plays.as_slice()) {
+        Ok(marked) => println!(rt; "{marked}"),
         Err(_) => println!(rt; "error: the trial of the worked plays is refused"),
     }
 }

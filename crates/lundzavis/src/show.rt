@@ -1,117 +1,131 @@
 // What an opened rule file holds: each record once, by number with its links.
-use crate::naming;
+use crate::naming::AtomName;
+use crate::wording::{Count, FLUENTS};
 use rules::layout::Layout;
 use rules::opened::Rules;
 use rules::records::{Atom, Literal, Mark, Rule, Sign};
-use std::alloc::{AllocError, Global};
-use std::io;
+use std::{fmt, io};
 
 pub fn show(rt: &HostRuntime, rules: &Rules) -> io::Result<()> {
     let layout = rules.layout();
-    summary(rt, layout)?;
-    initial(rt, rules.atoms())?;
-    atoms(rt, layout, rules.moves(), rules.atoms())?;
-    rule_records(rt, rules.rules())?;
-    literals(rt, rules.literals())
-}
-
-fn plural(n: u16) -> &'static str {
-    if n == 1 { "" } else { "s" }
-}
-
-pub fn summary(rt: &HostRuntime, layout: Layout) -> io::Result<()> {
-    let Layout {
-        fluents,
-        roles,
-        atoms,
-        rules,
-        literals,
-        moves,
-    } = layout;
-    let (fs, os, ms) = (plural(fluents), plural(roles), plural(moves));
-    let (s, rs, ls) = (plural(atoms), plural(rules), plural(literals));
-    println!(rt;
-        "opened: {fluents} fluent{fs}, {roles} role{os} with {moves} move{ms}, {atoms} atom{s}, {rules} rule{rs}, {literals} literal{ls}"
-    )
-}
-
-fn initial(rt: &HostRuntime, atoms: &[Atom]) -> io::Result<()> {
-    print!(rt; "initial position:")?;
-    let mut separator = "";
-    for (i, atom) in atoms.iter().enumerate() {
-        if let Mark::Initial = atom.mark {
-            let number = i.saturating_add(1);
-            print!(rt; "{separator} fluent {number}")?;
-            separator = ",";
-        }
+    println!(rt; "{}", Summary(layout))?;
+    println!(rt; "{}", InitialPosition(rules.atoms()))?;
+    for (number, atom) in (1..=layout.atoms).zip(rules.atoms()) {
+        let name = AtomName {
+            layout,
+            counts: rules.moves(),
+            number,
+        };
+        println!(rt; "atom {number}: {name}; {}", Words(*atom))?;
     }
-    if separator.is_empty() {
-        print!(rt; " no fluent")?;
+    for (number, rule) in (1usize..).zip(rules.rules()) {
+        println!(rt; "rule {number}: {}", Words(*rule))?;
     }
-    println!(rt; "")
-}
-
-fn atoms(rt: &HostRuntime, layout: Layout, counts: &[u16], atoms: &[Atom]) -> io::Result<()> {
-    let mut number: u16 = 0;
-    for atom in atoms {
-        number = number.saturating_add(1);
-        let line = atom_line(rt.alloc(), layout, counts, number, *atom)?;
-        rt.println(line)?;
+    for (number, literal) in (1usize..).zip(rules.literals()) {
+        println!(rt; "literal {number}: {}", Words(*literal))?;
     }
     Ok(())
 }
 
-fn atom_line(
-    heap: Global,
-    layout: Layout,
-    counts: &[u16],
-    number: u16,
-    atom: Atom,
-) -> Result<String, AllocError> {
-    let name = naming::atom(heap, layout, counts, number)?;
-    let mark = match atom.mark {
-        Mark::Still => "still",
-        Mark::Dependent => "moves matter",
-        Mark::Initial => "still, true at the start",
-    };
-    let stratum = atom.stratum;
-    let first = atom.first;
-    if first == 0 {
-        format!(in heap; "atom {number}: {name}; stratum {stratum}; {mark}; no rule")
-    } else {
-        format!(in heap; "atom {number}: {name}; stratum {stratum}; {mark}; first rule {first}")
+// The line of an opening.
+#[derive(Clone, Copy)]
+pub struct Summary(pub Layout);
+
+impl fmt::Display for Summary {
+    fn fmt<W: fmt::Write>(&self, f: &mut fmt::Formatter<W>) -> fmt::Result {
+        let Layout {
+            fluents,
+            roles,
+            atoms,
+            rules,
+            literals,
+            moves,
+        } = self.0;
+        write!(
+            f,
+            "opened: {}, {} with {}, {}, {}, {}",
+            Count(fluents, "fluent"),
+            Count(roles, "role"),
+            Count(moves, "move"),
+            Count(atoms, "atom"),
+            Count(rules, "rule"),
+            Count(literals, "literal")
+        )
     }
 }
 
-fn rule_records(rt: &HostRuntime, rules: &[Rule]) -> io::Result<()> {
-    for (i, rule) in rules.iter().enumerate() {
-        let number = i.saturating_add(1);
-        let next = rule.next;
-        let first = rule.first;
-        match (first, next) {
-            (0, 0) => println!(rt; "rule {number}: empty body; last of its chain")?,
-            (0, _) => println!(rt; "rule {number}: empty body; next rule {next}")?,
-            (_, 0) => println!(rt; "rule {number}: first literal {first}; last of its chain")?,
-            _ => println!(rt; "rule {number}: first literal {first}; next rule {next}")?,
+// The fluents among the atoms that are true at the start.
+#[derive(Clone, Copy)]
+struct InitialPosition<'a>(&'a [Atom]);
+
+impl fmt::Display for InitialPosition<'_> {
+    fn fmt<W: fmt::Write>(&self, f: &mut fmt::Formatter<W>) -> fmt::Result {
+        f.write_str("initial position:")?;
+        FLUENTS.write(
+            f,
+            (1..)
+                .zip(self.0)
+                .filter(|(_, atom)| matches!(atom.mark, Mark::Initial))
+                .map(|(number, _)| number),
+        )
+    }
+}
+
+// What a record says, in words.
+#[derive(Clone, Copy)]
+struct Words<T>(T);
+
+impl fmt::Display for Words<Atom> {
+    fn fmt<W: fmt::Write>(&self, f: &mut fmt::Formatter<W>) -> fmt::Result {
+        let Atom {
+            stratum,
+            mark,
+            first,
+        } = self.0;
+        let mark = match mark {
+            Mark::Still => "still",
+            Mark::Dependent => "moves matter",
+            Mark::Initial => "still, true at the start",
+        };
+        write!(f, "stratum {stratum}; {mark}; ")?;
+        match first {
+            0 => f.write_str("no rule"),
+            _ => write!(f, "first rule {first}"),
         }
     }
-    Ok(())
 }
 
-fn literals(rt: &HostRuntime, literals: &[Literal]) -> io::Result<()> {
-    for (i, literal) in literals.iter().enumerate() {
-        let number = i.saturating_add(1);
-        let atom = literal.atom;
-        let next = literal.next;
-        let sign = match literal.sign {
+impl fmt::Display for Words<Rule> {
+    fn fmt<W: fmt::Write>(&self, f: &mut fmt::Formatter<W>) -> fmt::Result {
+        let Rule { next, first } = self.0;
+        match first {
+            0 => f.write_str("empty body")?,
+            _ => write!(f, "first literal {first}")?,
+        }
+        write!(f, "; {}", Next("rule", next))
+    }
+}
+
+impl fmt::Display for Words<Literal> {
+    fn fmt<W: fmt::Write>(&self, f: &mut fmt::Formatter<W>) -> fmt::Result {
+        let Literal { atom, sign, next } = self.0;
+        let sign = match sign {
             Sign::Plain => "atom",
             Sign::Negated => "not atom",
         };
-        if next == 0 {
-            println!(rt; "literal {number}: {sign} {atom}; last of its chain")?;
-        } else {
-            println!(rt; "literal {number}: {sign} {atom}; next literal {next}")?;
+        write!(f, "{sign} {atom}; {}", Next("literal", next))
+    }
+}
+
+// The link of a chain, to a record of the kind that is named.
+#[derive(Clone, Copy)]
+struct Next(&'static str, u16);
+
+impl fmt::Display for Next {
+    fn fmt<W: fmt::Write>(&self, f: &mut fmt::Formatter<W>) -> fmt::Result {
+        match *self {
+            Next(_, 0) => f.write_str("last of its chain"),
+            Next(kind, next) => write!(f, "next {kind} {next}"),
         }
     }
-    Ok(())
 }

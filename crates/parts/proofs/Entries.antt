@@ -1,16 +1,12 @@
 -- Entries of the table, where some are written and others stay.
-use Rattle.std.proofs.Common.{◌≡◌, ℕ, zero, suc, ◌+◌, ◌-◌, ◌*◌, ◌<◌, ◌≤◌, ◌⊎◌, List, [], ◌∷◌, map, length, get_or, set, sym, ap, ◌∙◌, inl, inr, arith}
-use Rattle.std.proofs.lemmas.List.{get_or-set_same, get_or-set_other, length-map, length-set, map-set}
+use Rattle.std.proofs.Common.{◌≡◌, ℕ, zero, suc, ◌+◌, ◌-◌, ◌<◌, ◌≤◌, ◌⊎◌, List, [], ◌∷◌, map, length, get_or, set, sym, ap, ◌∙◌, subst, inl, inr, arith}
+use Rattle.std.proofs.lemmas.List.{get_or-set_same, get_or-set_other, length-map, map-set}
 use Rattle.std.proofs.lemmas.Bool.{cases_eq, cases_order}
 use Rattle.rules.specs.declared.opened.Rules.{Rules}
-use Rattle.rules.specs.Opens.{atoms_of}
 use Rattle.evaluate.specs.Evaluate.{Ops, look}
-use Rattle.evaluate.specs.Grids.{place}
-use Rattle.evaluate.proofs.Chains.{few_atoms}
-use Rattle.evaluate.proofs.Rows.{row_same}
 use Rattle.property.specs.declared.records.Record.{Record}
 use Rattle.property.specs.Trees.{reading_at}
-use Rattle.parts.specs.Tables.{entry_at, table_start, Spacious, KeptBesideTable, KeptBesideLevel, LevelIn, LevelsIn, FilledBehind}
+use Rattle.parts.specs.Tables.{entry_at, KeptBesideLevel, FilledBehind, FilledFrom}
 use Rattle.parts.specs.Values.{value}
 
 -- a place that stays, stays in what is meant
@@ -20,17 +16,7 @@ same_place m e (x ∷ xs) [] i h h' s = absurd (omega arith)
 same_place m e (x ∷ xs) (y ∷ ys) zero h h' s = ap m (s x)
 same_place m e (x ∷ xs) (y ∷ ys) (suc i) h h' s = same_place m e xs ys i (omega arith) (omega arith) s
 
-module _ {X V : Type 0} (means : X → V) (R : Rules) (L : ℕ → List V) (xs ys : List X) (len : length ys ≡ length xs) (room : Spacious xs) where
-  pub level_kept : ((i : ℕ) (d : X) → i < table_start → get_or ys i d ≡ get_or xs i d) → (level : ℕ) → level < 5 → LevelIn means R xs L level → LevelIn means R ys L level
-  level_kept kept level h is =
-      let n = length (atoms_of R) in
-      let long : level * 512 + n ≤ length xs = omega (arith, few_atoms R) in
-      ap (map means) (row_same n xs ys level len long (λ a d l. kept (place level a) d (omega (arith, few_atoms R)))) ∙ is
-
-  pub levels_kept : KeptBesideTable xs ys → (horizon : ℕ) → horizon < 5 → LevelsIn means R xs L horizon → LevelsIn means R ys L horizon
-  levels_kept kept horizon h is level l = level_kept (λ i d u. kept i d (inl u)) level (omega arith) (is level l)
-
-module _ {X V : Type 0} (o : Ops V) (means : X → V) (R : Rules) (rs : List Record) (L : ℕ → List V) (few : length rs ≤ 64) (xs ys : List X) (len : length ys ≡ length xs) (room : Spacious xs) where
+module _ {X V : Type 0} (o : Ops V) (means : X → V) (R : Rules) (rs : List Record) (L : ℕ → List V) (few : length rs ≤ 64) (xs ys : List X) (whole : length xs ≡ 320) (still_whole : length ys ≡ 320) where
   pub filled_kept : (level left i : ℕ) → level < 5 → ((k : ℕ) (d : X) → 0 < k → k ≤ 64 → get_or ys (entry_at level k) d ≡ get_or xs (entry_at level k) d)
       → FilledBehind o means R rs L xs level left i → FilledBehind o means R rs L ys level left i
   filled_kept level left i h same filled k l u =
@@ -45,11 +31,21 @@ module _ {X V : Type 0} (o : Ops V) (means : X → V) (R : Rules) (rs : List Rec
       apart k p u (inr (inl l)) = inl (omega arith)
       apart k p u (inr (inr l)) = inr (omega arith)
 
+  -- a level is filled, above the levels that are
+  pub filled_down : (k horizon : ℕ) → horizon < 5 → k ≤ horizon → KeptBesideLevel k xs ys
+      → ((0 < horizon - k → FilledBehind o means R rs L xs (k + 1) (horizon - k - 1) 0) → FilledBehind o means R rs L ys k (horizon - k) 0)
+      → FilledFrom o means R rs L xs (k + 1) horizon → FilledFrom o means R rs L ys k horizon
+  filled_down k horizon h low kept own filled j l u =
+      elim (cases_eq j k) [
+        | inl same ↦
+            let left : horizon - (k + 1) ≡ horizon - k - 1 = omega arith in
+            subst (λ a. FilledBehind o means R rs L ys a (horizon - a) 0) (sym same)
+            (own (λ p. subst (λ a. FilledBehind o means R rs L xs (k + 1) a 0) left (filled (k + 1) (omega arith) (omega arith))))
+        | inr other ↦ other_level k j (horizon - j) 0 (omega arith) other kept (filled j (omega arith) u)
+      ]
+
 -- record m is entered
 module _ {X : Type 0} (xs ys : List X) (level m : ℕ) (v : X) (above : 0 < m) (within : m ≤ 64) (is : ys ≡ set xs (entry_at level m) v) where
-  pub enter_length : length ys ≡ length xs
-  enter_length = ap length is ∙ length-set xs (entry_at level m) v
-
   pub enter_kept : KeptBesideLevel level xs ys
   enter_kept i d out = ap (λ zs. get_or zs i d) is ∙ get_or-set_other xs (entry_at level m) i v d (away out)
     where
@@ -57,7 +53,7 @@ module _ {X : Type 0} (xs ys : List X) (level m : ℕ) (v : X) (above : 0 < m) (
       away (inl l) e = omega arith
       away (inr l) e = omega arith
 
-  pub enter_filled : {V : Type 0} (o : Ops V) (means : X → V) (R : Rules) (rs : List Record) (L : ℕ → List V) (left : ℕ) → length rs ≤ 64 → level < 5 → Spacious xs
+  pub enter_filled : {V : Type 0} (o : Ops V) (means : X → V) (R : Rules) (rs : List Record) (L : ℕ → List V) (left : ℕ) → length rs ≤ 64 → level < 5 → 320 ≤ length xs
       → means v ≡ value o R L (reading_at rs m).whole level left → FilledBehind o means R rs L xs level left m → FilledBehind o means R rs L ys level left (m - 1)
   enter_filled o means R rs L left few h room made filled k l u =
       let inside : entry_at level m < length (map means xs) = omega (arith, length-map xs means) in

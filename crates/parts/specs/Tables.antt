@@ -1,9 +1,9 @@
--- What a slice of values holds: the levels of a play in its rows, and behind them the values of a property's records by level.
+-- What values hold: the levels of a play in rows, and behind them a table, the values of a property's records by level.
 use Rattle.std.specs.Prelude.{◌≡◌, ℕ, ◌+◌, ◌-◌, ◌*◌, ◌<◌, ◌≤◌, ◌⊎◌, List, map, length, slice_index_or}
 use Rattle.rules.specs.declared.opened.Rules.{Rules}
 use Rattle.rules.specs.Opens.{atoms_of}
 use Rattle.evaluate.specs.Evaluate.{Ops, look}
-use Rattle.evaluate.specs.Grids.{place, row}
+use Rattle.evaluate.specs.Grids.{row}
 use Rattle.property.specs.declared.properties.Property.{Property}
 use Rattle.property.specs.declared.records.Record.{Record}
 use Rattle.property.specs.Reads.{records_of}
@@ -13,14 +13,11 @@ use Rattle.parts.specs.Values.{value}
 abbrev pub tree_of : Property → Tree
 tree_of p = property_of (records_of p)
 
--- the row where the table begins: 64 records at each of five levels
-abbrev pub table_row : ℕ
-table_row = 6
-
--- the place of record k, from 1, at a level
+-- the place of record k, from 1, at a level of a table: 64 records at each of five levels
 abbrev pub entry_at : ℕ → ℕ → ℕ
-entry_at level k = place table_row (64 * level + (k - 1))
+entry_at level k = 64 * level + (k - 1)
 
+-- where the table begins and ends, behind the rows
 abbrev pub table_start : ℕ
 table_start = 3072
 
@@ -34,7 +31,7 @@ Spacious xs = table_end ≤ length xs
 abbrev pub KeptBesideTable : {X : Type 0} → List X → List X → Type 0
 KeptBesideTable {X} xs ys = (i : ℕ) (d : X) → (i < table_start) ⊎ (table_end ≤ i) → slice_index_or ys i d ≡ slice_index_or xs i d
 
--- but in the entries of a level
+-- tables: but in the entries of a level
 abbrev pub KeptBesideLevel : {X : Type 0} → ℕ → List X → List X → Type 0
 KeptBesideLevel {X} level xs ys = (i : ℕ) (d : X) → (i < entry_at level 1) ⊎ (entry_at (level + 1) 1 ≤ i) → slice_index_or ys i d ≡ slice_index_or xs i d
 

@@ -1,7 +1,7 @@
 // The value of 'this play breaks the part' on the levels of a play, over any truth form.
 //
-// `part_value` answers it for a play whose levels stand in a grid, with a docket of properties that a step may assume; `moves` has
-// the legality of the run's moves, `table` the values of a property's records by level, in a table behind the grid's rows.
+// `part_value` answers it for a play whose levels stand in rows, with a docket of properties that a step may assume; `moves` has the
+// rows of a run and the legality of its moves, `table` the values of a property's records by level, in a table behind the rows.
 //
 // Proved: the answer means the value of the part as it is written once, over any values, in specs/Values; the levels are not
 // changed. `claims` says what that value is: over yes and no it is the mark of the play, in any game that reads the standard model

@@ -6,4 +6,5 @@ pub mod Claims
 pub mod Stranded
 pub mod Example
 pub mod Bytes
+pub mod Plays
 pub mod Faults

@@ -1,4 +1,4 @@
-ghost use Rattle.std.specs.Prelude.{◌≡◌, ◌/◌, ◌<◌, length};
+ghost use Rattle.std.specs.Prelude.{◌≡◌, ◌/◌, length};
 ghost use Rattle.std.specs.List.{range_with_len};
 ghost use Rattle.rules.specs.First.{verdict, first};
 ghost use Rattle.play.specs.Bytes.{start_fits, byte_fits, byte_fault, first_fault};
@@ -21,39 +21,41 @@ impl Part {
     }
 }
 
-// Whether byte i of a play is what its place asks for.
-fn fits(rules: &Rules, part: Part, levels: u16, i: usize, byte: u8) -> bool
-    ensures { result ≡ byte_fits rules.now part levels i byte }
-{
-    let fluents = usize::from(rules.layout().fluents);
-    let roles = usize::from(rules.layout().roles);
-    if i < fluents {
-        return part.starts_with(rules.atoms()[i].mark, byte);
-    }
-    if i < fluents + roles * usize::from(levels) {
-        return byte >= 1 && u16::from(byte) <= rules.moves()[(i - fluents) % roles];
-    }
-    byte == 0
+// What plays are checked for: a part over so many levels, by these rules.
+#[derive(Clone, Copy)]
+struct Format<'a> {
+    rules: &'a Rules,
+    part: Part,
+    levels: u16,
 }
 
-fn check_byte(rules: &Rules, part: Part, levels: u16, bytes: &[u8], j: usize) -> Result<(), Fault>
-    requires { j < length bytes.now }
-    ensures { result ≡ verdict (byte_fault rules.now part levels bytes.now j) tt }
-{
-    if fits(rules, part, levels, j % 96, bytes[j]) {
+impl Format<'_> {
+    // Whether byte i of a play is what its place asks for.
+    fn fits(self, i: usize, byte: u8) -> bool
+        ensures { result ≡ byte_fits self.entry.rules.now self.entry.part self.entry.levels i byte }
+    {
+        let fluents = usize::from(self.rules.layout().fluents);
+        let roles = usize::from(self.rules.layout().roles);
+        if i < fluents {
+            return self.part.starts_with(self.rules.atoms()[i].mark, byte);
+        }
+        if i < fluents + roles * usize::from(self.levels) {
+            return byte >= 1 && u16::from(byte) <= self.rules.moves()[(i - fluents) % roles];
+        }
+        byte == 0
+    }
+
+    // The first byte of the plays that does not fit.
+    fn check(self, bytes: &[u8]) -> Result<(), Fault>
+        ensures { result ≡ verdict (first (byte_fault self.entry.rules.now self.entry.part self.entry.levels bytes.now) (range_with_len 0 (length bytes.now))) tt }
+    {
+        for (j, byte) in bytes.iter().enumerate() {
+            if !self.fits(j % 96, *byte) {
+                return Err(Fault::Byte(j));
+            }
+        }
         Ok(())
-    } else {
-        Err(Fault::Byte(j))
     }
-}
-
-fn check_bytes(rules: &Rules, part: Part, levels: u16, bytes: &[u8]) -> Result<(), Fault>
-    ensures { result ≡ verdict (first (byte_fault rules.now part levels bytes.now) (range_with_len 0 (length bytes.now))) tt }
-{
-    for j in 0..bytes.len() {
-        check_byte(rules, part, levels, bytes, j)?;
-    }
-    Ok(())
 }
 
 // How many plays there are; or their first fault.
@@ -64,6 +66,11 @@ pub fn check(rules: &Rules, part: Part, levels: u16, bytes: &[u8]) -> Result<usi
     if length < 96 || length > 6144 || length % 96 != 0 {
         return Err(Fault::Length(length));
     }
-    check_bytes(rules, part, levels, bytes)?;
+    let format = Format {
+        rules,
+        part,
+        levels,
+    };
+    format.check(bytes)?;
     Ok(length / 96)
 }

@@ -1,9 +1,10 @@
-pub mod Fills
+pub mod Backwards
+pub mod Collected
 pub mod Followings
-pub mod Held
 pub mod Links
 pub mod Measures
 pub mod Reader
 pub mod Standing
 pub mod Stepping
 pub mod Takings
+pub mod Nothings

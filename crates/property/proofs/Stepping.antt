@@ -1,5 +1,6 @@
 -- Readings of records, a record at a time.
 use Rattle.std.proofs.Common.{◌≡◌, ℕ, zero, suc, ◌+◌, ◌-◌, ◌<◌, ◌≤◌, List, [], ◌∷◌, map, length, get_or, sym, refl, ap, ◌∙◌, ap₂, inl, inr, arith}
+use Rattle.std.proofs.Math.ListN.{get_or-map}
 use Rattle.std.proofs.lemmas.Bool.{cases_eq}
 use Rattle.property.specs.declared.records.Record.{Record}
 use Rattle.property.specs.Linked.{Linked}
@@ -54,14 +55,9 @@ module _ {X : Type 0} (none : X) (made : Record → X → X → X) where
 -- a reading that is a function of another
 module _ {X Y : Type 0} (h : X → Y) (none : X) (made : Record → X → X → X) (none' : Y) (made' : Record → Y → Y → Y)
     (at_none : h none ≡ none') (at_made : (r : Record) (x y : X) → h (made r x y) ≡ made' r (h x) (h y)) where
-  mapped : (xs : List X) (j : ℕ) → h (get_or xs j none) ≡ get_or (map h xs) j none'
-  mapped [] j = at_none
-  mapped (x ∷ xs) zero = refl
-  mapped (x ∷ xs) (suc j) = mapped xs j
-
   mapped_link : (xs : List X) (i k : ℕ) → h (at_link none made xs i k) ≡ at_link none' made' (map h xs) i k
   mapped_link xs i zero = at_none
-  mapped_link xs i (suc k) = mapped xs (k - i)
+  mapped_link xs i (suc k) = sym (get_or-map h xs (k - i) none) ∙ ap (get_or (map h xs) (k - i)) at_none
 
   mapped_readings : (i : ℕ) (rs : List Record) → map h (readings none made i rs) ≡ readings none' made' i rs
   unfolding readings

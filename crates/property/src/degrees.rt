@@ -41,8 +41,7 @@ pub fn whole_degree(records: &[Record]) -> u8
     ensures { result ≡ degree_of records.now }
 {
     let mut degrees = [NONE; 65];
-    for i in (0..records.len()).rev() {
-        let record = records[i];
+    for (i, record) in records.iter().enumerate().rev() {
         let operand = degrees[usize::from(record.formula.operand())];
         let next = degrees[usize::from(record.next)];
         degrees[i + 1] = record.degrees(operand, next);

@@ -7,6 +7,7 @@
 // `degree` answers the most followings on a path from record 1, which is the degree of the property that the records stand for.
 #![tactic(auto)]
 
+pub mod defaults;
 mod degrees;
 pub mod faults;
 pub mod properties;

@@ -12,7 +12,6 @@ use crate::faults::Fault;
 use crate::properties::Property;
 use crate::records::Record;
 use crate::text::Text;
-use crate::words::count_records;
 use rules::opened::Rules;
 
 // How many followings a path may have.
@@ -23,18 +22,12 @@ pub fn read(rules: &Rules, bytes: &[u8]) -> Result<Property, Fault>
     ensures value { contents result ≡ verdict (first_fault rules.now bytes.now) (records_in bytes.now) }
     ensures taken { Reads rules.now bytes.now result }
 {
-    let count = count_records(bytes)?;
-    let text = Text { bytes, count };
-    let records = text.records(rules)?;
-    let degree = whole_degree(&records[0..usize::from(count)]);
+    let records = Text::try_from(bytes)?.records(rules)?;
+    let degree = whole_degree(records.as_slice());
     if degree > MOST_FOLLOWINGS {
         return Err(Fault::Degree);
     }
-    Ok(Property {
-        records,
-        count,
-        degree,
-    })
+    Ok(Property { records, degree })
 }
 
 impl Property {
@@ -43,7 +36,7 @@ impl Property {
         ensures value { result.now ≡ records_of self.now }
         ensures stands { StandsFor result.now (property_of result.now) }
     {
-        &self.records[0..usize::from(self.count)]
+        self.records.as_slice()
     }
 
     // The most followings on a path from record 1.

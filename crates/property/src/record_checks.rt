@@ -1,12 +1,15 @@
-ghost use Rattle.std.specs.Prelude.{◌≡◌, ◌-◌, ◌<◌, ◌≤◌, ◌++◌, replicate};
-ghost use Rattle.rules.specs.First.{verdict, next_fits};
-ghost use Rattle.property.specs.First.{still, still_atom, value_fits, record_fault, wrong_word};
-ghost use Rattle.property.specs.Typed.{formula_of, record_in, records_in, unused};
+ghost use Rattle.std.specs.Prelude.{◌≡◌};
+ghost use Rattle.std.specs.Result.{result_map_both};
+ghost use Rattle.rules.specs.First.{unless, verdict, next_fits};
+ghost use Rattle.property.specs.First.{still, still_atom, kind_fits, value_fits, record_fault, wrong_word};
+ghost use Rattle.property.specs.Typed.{formula_of, record_in, records_in};
 ghost use Rattle.property.specs.Words.{words_in, count_in};
 
 use crate::faults::Fault;
-use crate::records::{Formula, Record, UNUSED};
-use crate::text::Text;
+use crate::records::{Formula, Record};
+use crate::text::{Entry, Text};
+use arrayvec::ArrayVec;
+use rules::links::leads_later;
 use rules::opened::Rules;
 use rules::records::Mark;
 
@@ -26,66 +29,73 @@ fn names_still_atom(rules: &Rules, atom: u16) -> bool
     atom >= 1 && atom <= rules.layout().atoms && is_still(rules.atoms()[usize::from(atom) - 1].mark)
 }
 
-// Whether a link of a record, of so many, is 0 or names a later record.
-fn leads_later(from: u16, count: u16, link: u16) -> bool
-    ensures { result ≡ next_fits from count link }
-{
-    link == 0 || (link > from && link <= count)
+// A word that is no kind of record.
+#[derive(Clone, Copy)]
+pub struct UnknownKind(pub u16);
+
+// A formula, of the words that are its kind and its value.
+impl TryFrom<(u16, u16)> for Formula {
+    type Error = UnknownKind;
+
+    ghost try_from_gives = { λ words r. r ≡ verdict (unless (kind_fits words.0) (record { 0 = words.0 })) (formula_of words.0 words.1) };
+
+    fn try_from((kind, value): (u16, u16)) -> Result<Self, UnknownKind> {
+        match kind {
+            1 => Ok(Formula::Atom(value)),
+            2 => Ok(Formula::Not(value)),
+            3 => Ok(Formula::All(value)),
+            4 => Ok(Formula::Following(value)),
+            _ => Err(UnknownKind(kind)),
+        }
+    }
 }
 
-impl Formula {
-    fn from_words(kind: u16, value: u16) -> Formula
-        ensures { result ≡ formula_of kind value }
+impl Entry<'_> {
+    // Whether the link is 0 or leads to a later record.
+    fn leads_later(self, link: u16) -> bool
+        ensures { result ≡ next_fits self.entry.number (count_in self.entry.text.bytes.now) link }
     {
-        match kind {
-            1 => Formula::Atom(value),
-            2 => Formula::Not(value),
-            3 => Formula::All(value),
-            _ => Formula::Following(value),
+        leads_later(self.number, self.text.count(), link)
+    }
+
+    // Whether the record may have this formula.
+    fn takes(self, rules: &Rules, formula: Formula) -> bool
+        ensures { result ≡ value_fits rules.now (count_in self.entry.text.bytes.now) self.entry.number formula }
+    {
+        match formula {
+            Formula::Atom(atom) => names_still_atom(rules, atom),
+            Formula::All(link) => self.leads_later(link),
+            Formula::Not(link) | Formula::Following(link) => link != 0 && self.leads_later(link),
         }
+    }
+
+    // The record; its words are checked in their order.
+    fn record(self, rules: &Rules) -> Result<Record, Fault>
+        ensures { result ≡ verdict (record_fault rules.now (count_in self.entry.text.bytes.now) (words_in self.entry.text.bytes.now) self.entry.number) (record_in (words_in self.entry.text.bytes.now) self.entry.number) }
+    {
+        let Ok(formula) = Formula::try_from((self.word(0), self.word(1))) else {
+            return Err(self.fault(0));
+        };
+        if !self.takes(rules, formula) {
+            return Err(self.fault(1));
+        }
+        let next = self.word(2);
+        if !self.leads_later(next) {
+            return Err(self.fault(2));
+        }
+        Ok(Record { formula, next })
     }
 }
 
 impl Text<'_> {
-    // Whether the value of the record with this number is one that its kind may have.
-    fn takes(self, rules: &Rules, number: u16, formula: Formula) -> bool
-        ensures { result ≡ value_fits rules.now self.entry.count number formula }
+    // The records, or the first fault in their words.
+    pub fn records(self, rules: &Rules) -> Result<ArrayVec<Record, 64>, Fault>
+        ensures { result_map_both (λ v. v.items) (λ fault. fault) result ≡ verdict (wrong_word rules.now self.entry.bytes.now) (records_in self.entry.bytes.now) }
     {
-        match formula {
-            Formula::Atom(atom) => names_still_atom(rules, atom),
-            Formula::All(link) => leads_later(number, self.count, link),
-            Formula::Not(link) | Formula::Following(link) => link > number && link <= self.count,
-        }
-    }
-
-    // The record with this number; its words are checked in their order.
-    fn record(self, rules: &Rules, number: u16) -> Result<Record, Fault>
-        requires above { 0 < number }
-        requires within { number ≤ self.count }
-        ensures { result ≡ verdict (record_fault rules.now self.entry.count (words_in self.entry.bytes.now) number) (record_in (words_in self.entry.bytes.now) number) }
-    {
-        let kind = self.word(number, 0);
-        if kind < 1 || kind > 4 {
-            return Err(Fault::Word(2 * self.word_at(number, 0)));
-        }
-        let formula = Formula::from_words(kind, self.word(number, 1));
-        if !self.takes(rules, number, formula) {
-            return Err(Fault::Word(2 * self.word_at(number, 1)));
-        }
-        let next = self.word(number, 2);
-        if !leads_later(number, self.count, next) {
-            return Err(Fault::Word(2 * self.word_at(number, 2)));
-        }
-        Ok(Record { formula, next })
-    }
-
-    // The records, and the unused places behind them.
-    pub fn records(self, rules: &Rules) -> Result<[Record; 64], Fault>
-        ensures { result ≡ verdict (wrong_word rules.now self.entry.bytes.now) (records_in self.entry.bytes.now ++ replicate (64 - count_in self.entry.bytes.now) unused) }
-    {
-        let mut records = [UNUSED; 64];
-        for i in 0..self.count {
-            records[usize::from(i)] = self.record(rules, i + 1)?;
+        let mut records = ArrayVec::new();
+        for number in 1..=self.count() {
+            let entry = Entry { text: self, number };
+            records.push(entry.record(rules)?);
         }
         Ok(records)
     }

@@ -1,5 +1,5 @@
 ghost use Rattle.std.specs.Prelude.{◌≡◌};
-ghost use Rattle.property.specs.Typed.{operand_of};
+ghost use Rattle.property.specs.Typed.{operand_of, unused};
 
 // The records of a property. They are numbered from 1; a link is such a number and leads to a later record, and 0 is no record.
 
@@ -23,10 +23,16 @@ pub struct Record {
 }
 
 // What stands in the places behind the last record: no atom, and no link.
-pub const UNUSED: Record = Record {
-    formula: Formula::Atom(0),
-    next: 0,
-};
+impl Default for Record {
+    ghost is_default = { λ r. r ≡ unused };
+
+    fn default() -> Self {
+        Record {
+            formula: Formula::Atom(0),
+            next: 0,
+        }
+    }
+}
 
 impl Formula {
     // The record that the value leads to: the operand, or the first of a chain; 0 where there is none.

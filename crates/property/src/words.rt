@@ -1,50 +1,61 @@
-ghost use Rattle.std.specs.Prelude.{◌≡◌, ◌+◌, ◌*◌, ◌<◌, ◌≤◌, length};
+ghost use Rattle.std.specs.Prelude.{◌≡◌, ◌*◌, ◌<◌};
+ghost use Rattle.std.specs.Result.{result_map_both};
 ghost use Rattle.rules.specs.First.{verdict};
 ghost use Rattle.rules.specs.Words.{word as word_at};
+ghost use Rattle.property.specs.declared.faults.Fault.TheVariants.{Word};
 ghost use Rattle.property.specs.Words.{record_word, count_in};
 ghost use Rattle.property.specs.First.{wrong_length};
 
 use crate::faults::Fault;
-use crate::text::Text;
+use crate::text::{Entry, Text};
+use rules::words::word;
 
-// Word i of the bytes, high byte first.
-fn word(bytes: &[u8], i: usize) -> u16
-    requires { 2 * i + 1 < length bytes.now }
-    ensures { result ≡ word_at bytes.now i }
-{
-    u16::from(bytes[2 * i]) * 256 + u16::from(bytes[2 * i + 1])
-}
+// The text of a file, if its length is that of 1 to 64 records.
+impl<'a> TryFrom<&'a [u8]> for Text<'a> {
+    type Error = Fault;
 
-// How many records the bytes are.
-pub fn count_records(bytes: &[u8]) -> Result<u16, Fault>
-    ensures { result ≡ verdict (wrong_length bytes.now) (count_in bytes.now) }
-{
-    let length = bytes.len();
-    if length < 6 || length > 384 || length % 6 != 0 {
-        return Err(Fault::Length(length));
+    ghost try_from_gives = { λ bytes r. result_map_both (λ t. t.bytes.now) (λ fault. fault) r ≡ verdict (wrong_length bytes.now) bytes.now };
+
+    fn try_from(bytes: &'a [u8]) -> Result<Self, Fault> {
+        let length = bytes.len();
+        if length < 6 || length > 384 || length % 6 != 0 {
+            return Err(Fault::Length(length));
+        }
+        Ok(Text { bytes })
     }
-    Ok((length / 6) as u16)
 }
 
 impl Text<'_> {
-    // Where word i of the record with this number stands, in words.
-    pub fn word_at(self, number: u16, i: usize) -> usize
-        requires above { 0 < number }
-        requires within { number ≤ self.count }
-        requires part { i < 3 }
-        ensures value { result ≡ record_word number i }
-        ensures bound { result < 3 * self.entry.count }
+    // How many records there are.
+    pub fn count(self) -> u16
+        ensures { result ≡ count_in self.entry.bytes.now }
     {
-        3 * (usize::from(number) - 1) + i
+        (self.bytes.len() / 6) as u16
+    }
+}
+
+impl Entry<'_> {
+    // Where word i of the record stands, in words.
+    fn word_at(self, i: usize) -> usize
+        requires { i < 3 }
+        ensures { result ≡ record_word self.entry.number i }
+    {
+        3 * (usize::from(self.number) - 1) + i
     }
 
-    // Word i of the record with this number.
-    pub fn word(self, number: u16, i: usize) -> u16
-        requires above { 0 < number }
-        requires within { number ≤ self.count }
-        requires part { i < 3 }
-        ensures { result ≡ word_at self.entry.bytes.now (record_word number i) }
+    // Word i of the record: its kind, its value, its next.
+    pub fn word(self, i: usize) -> u16
+        requires { i < 3 }
+        ensures { result ≡ word_at self.entry.text.bytes.now (record_word self.entry.number i) }
     {
-        word(self.bytes, self.word_at(number, i))
+        word(self.text.bytes, self.word_at(i))
+    }
+
+    // That word i of the record breaks its rule.
+    pub fn fault(self, i: usize) -> Fault
+        requires { i < 3 }
+        ensures { result ≡ Word (2 * record_word self.entry.number i) }
+    {
+        Fault::Word(2 * self.word_at(i))
     }
 }

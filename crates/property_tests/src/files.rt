@@ -15,9 +15,7 @@ const RULE_FILE: [u16; 48] = [
 pub fn words(heap: Global, words: &[u16]) -> Result<Vec<u8>, AllocError> {
     let mut bytes = Vec::new(heap);
     for word in words {
-        for byte in word.to_be_bytes() {
-            bytes.push(byte)?;
-        }
+        bytes.extend_from_slice(&word.to_be_bytes())?;
     }
     Ok(bytes)
 }

@@ -23,6 +23,9 @@ module _ (next : ℕ → ℕ) (n : ℕ) (later : Later next n) where
   chain_step zero p h = absurd (omega arith)
   chain_step (suc k) p h = enough n (suc n) (suc k) h (λ _. omega arith) (λ _. omega arith)
 
+  pub chain_step_to : (k j : ℕ) → 0 < k → k ≤ n → j ≡ next k → chain next n k ≡ k ∷ chain next n j
+  chain_step_to k j p h e = chain_step k p h ∙ ap (λ i. k ∷ chain next n i) (sym e)
+
 -- two kinds of links that agree have the same chains
 pub chain_alike : (next other : ℕ → ℕ) (n : ℕ) → Later next n → ((k : ℕ) → 0 < k → k ≤ n → next k ≡ other k) → (m k : ℕ) → k ≤ n → chain next m k ≡ chain other m k
 unfolding chain

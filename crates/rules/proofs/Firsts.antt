@@ -1,23 +1,26 @@
 -- The first fault along a list of numbers, a number at a time.
-use Rattle.std.proofs.Common.{◌≡◌, ℕ, suc, ◌+◌, ◌-◌, ◌<◌, ◌≤◌, Some, None, Ok, Err, Option, Result, sym, refl, ap, ◌∙◌, arith}
+use Rattle.std.proofs.Common.{◌≡◌, ℕ, suc, ◌+◌, ◌-◌, ◌<◌, ◌≤◌, ◌∷◌, Some, None, Ok, Err, Option, Result, sym, refl, ap, ◌∙◌, arith}
 use Rattle.std.specs.List.{range_with_len}
 use Rattle.rules.specs.First.{first, or_else, verdict}
 
+pub range_next : (i end : ℕ) → i < end → range_with_len i (end - i) ≡ i ∷ range_with_len (i + 1) (end - (i + 1))
+range_next i end h = let e : end - i ≡ suc (end - (i + 1)) = omega arith in ap (range_with_len i) e
+
 pub verdict_ok : {X F : Type 0} (o : Option F) (x y : X) → verdict o x ≡ Ok y → o ≡ None
 verdict_ok None x y e = refl
-verdict_ok (Some f) x y e = absurd (let z : ◌≡◌ {A = ℕ} 0 1 = cc in omega arith)
+verdict_ok (Some f) x y e = cc
 
 pub verdict_err : {X F : Type 0} (o : Option F) (x : X) (f : F) → verdict o x ≡ Err f → o ≡ Some f
-verdict_err None x f e = absurd (let z : ◌≡◌ {A = ℕ} 0 1 = cc in omega arith)
+verdict_err None x f e = cc
 verdict_err (Some g) x f e = cc
 
 pub verdict_value : {X F : Type 0} (o : Option F) (x y : X) → verdict o x ≡ Ok y → x ≡ y
 verdict_value None x y e = cc
-verdict_value (Some f) x y e = absurd (let z : ◌≡◌ {A = ℕ} 0 1 = cc in omega arith)
+verdict_value (Some f) x y e = cc
 
 module _ {X : Type 0} (f : ℕ → Option X) (i end : ℕ) where
   step : i < end → first f (range_with_len i (end - i)) ≡ or_else (f i) (first f (range_with_len (i + 1) (end - (i + 1))))
-  step h = let e : end - i ≡ suc (end - (i + 1)) = omega arith in ap (λ n. first f (range_with_len i n)) e
+  step h = ap (first f) (range_next i end h)
 
   -- nothing at i: the rest decides
   pub first_more : i < end → f i ≡ None → first f (range_with_len (i + 1) (end - (i + 1))) ≡ first f (range_with_len i (end - i))

@@ -1,5 +1,5 @@
 -- What every opened value's invariant gives.
-use Rattle.std.proofs.Common.{◌≡◌, ℕ, false, is_some, Some, None, Option, refl, arith}
+use Rattle.std.proofs.Common.{◌≡◌, false, is_some, Some, None, Option, refl}
 use Rattle.rules.specs.declared.opened.Rules.{Rules}
 use Rattle.rules.specs.First.{records_fault}
 use Rattle.rules.specs.Linked.{Linked}
@@ -9,7 +9,7 @@ use Rattle.rules.proofs.Passed.{records_pass, words_linked}
 
 nothing : {X : Type 0} (o : Option X) → is_some o ≡ false → o ≡ None
 nothing None e = refl
-nothing (Some x) e = absurd (let z : ◌≡◌ {A = ℕ} 0 1 = cc in omega arith)
+nothing (Some x) e = cc
 
 pub rules_fit : (R : Rules) → RecordsFit R.layout (tables_of R)
 rules_fit R = records_pass R.layout (tables_of R) (nothing (records_fault R.layout (tables_of R)) R.faultless)

@@ -15,14 +15,14 @@ use Rattle.rules.proofs.Chains.{chain_step}
 
 pub unless_none : {X : Type 0} (b : Bool) (x : X) → unless b x ≡ None → b ≡ true
 unless_none true x e = refl
-unless_none false x e = absurd (let z : ◌≡◌ {A = ℕ} 0 1 = cc in omega arith)
+unless_none false x e = cc
 
 pub unless_true : {X : Type 0} (b : Bool) (x : X) → b ≡ true → unless b x ≡ None
 unless_true b x e = ap (λ t. unless t x) e
 
 pub both_none : {X : Type 0} (o p : Option X) → or_else o p ≡ None → (o ≡ None) × (p ≡ None)
 both_none None p e = (refl, e)
-both_none (Some x) p e = absurd (let z : ◌≡◌ {A = ℕ} 0 1 = cc in omega arith)
+both_none (Some x) p e = cc
 
 pub none_both : {X : Type 0} (o p : Option X) → o ≡ None → p ≡ None → or_else o p ≡ None
 none_both o p d e = ap₂ or_else d e

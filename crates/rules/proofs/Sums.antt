@@ -1,12 +1,13 @@
--- The summary of a chain from each record on, a record at a time.
-use Rattle.std.proofs.Common.{◌≡◌, ℕ, ◌<◌, ◌≤◌, ap}
+-- The summary of a chain from each record on, and how a table of them is filled from its last entry down.
+use Rattle.std.proofs.Common.{◌≡◌, ℕ, ◌<◌, ◌≤◌, List, get_or, sym, ap, ◌∙◌, ap₂}
 use Rattle.rules.specs.declared.layout.Layout.{Layout}
 use Rattle.rules.specs.declared.summaries.Summary.{Summary}
 use Rattle.rules.specs.Chains.{chain}
 use Rattle.rules.specs.Linked.{Linked}
-use Rattle.rules.specs.Summaries.{empty, joined, literal_summary, body_summary, rules_summary}
+use Rattle.rules.specs.Summaries.{empty, joined, literal_summary, body_summary, rules_summary, Bodies}
 use Rattle.rules.specs.Tables.{Tables}
 use Rattle.rules.proofs.Chains.{chain_none, chain_step}
+use Rattle.rules.proofs.Downs.{FilledDown, down_read}
 
 module _ (y : Layout) (T : Tables) where
   abbrev pub body_from : ℕ → Summary
@@ -21,9 +22,15 @@ module _ (y : Layout) (T : Tables) where
   pub head_from_none : head_from 0 ≡ empty
   head_from_none = ap (rules_summary y T) (chain_none T.next_rule y.rules)
 
-  module _ (linked : Linked y T) where
-    pub body_from_step : (l : ℕ) → 0 < l → l ≤ y.literals → body_from l ≡ joined (literal_summary T l) (body_from (T.next_literal l))
-    body_from_step l p h = ap (body_summary T) (chain_step T.next_literal y.literals linked.next_literals l p h)
+  module _ (linked : Linked y T) (size : ℕ) (ss : List Summary) (i : ℕ) (above : 0 < i) where
+    pub body_entry : FilledDown empty body_from y.literals size i ss → i ≤ y.literals → joined (literal_summary T i) (get_or ss (T.next_literal i) empty) ≡ body_from i
+    body_entry f h =
+        let on = linked.next_literals i above h in
+        ap (joined (literal_summary T i)) (down_read empty body_from y.literals size ss i f body_from_none (T.next_literal i) on.0 on.1)
+        ∙ sym (ap (body_summary T) (chain_step T.next_literal y.literals linked.next_literals i above h))
 
-    pub head_from_step : (r : ℕ) → 0 < r → r ≤ y.rules → head_from r ≡ joined (body_from (T.first_literal r)) (head_from (T.next_rule r))
-    head_from_step r p h = ap (rules_summary y T) (chain_step T.next_rule y.rules linked.next_rules r p h)
+    pub head_entry : (bodies : List Summary) → Bodies y T bodies → FilledDown empty head_from y.rules size i ss → i ≤ y.rules → joined (get_or bodies (T.first_literal i) empty) (get_or ss (T.next_rule i) empty) ≡ head_from i
+    head_entry bodies summed f h =
+        let on = linked.next_rules i above h in
+        ap₂ joined (summed (T.first_literal i) (linked.first_literals i above h)) (down_read empty head_from y.rules size ss i f head_from_none (T.next_rule i) on.0 on.1)
+        ∙ sym (ap (rules_summary y T) (chain_step T.next_rule y.rules linked.next_rules i above h))

@@ -1,10 +1,13 @@
 -- A file without a fault is taken, and one that is taken has none.
-use Rattle.std.proofs.Common.{◌≡◌, ℕ, ◌+◌, ◌*◌, ◌<◌, ◌≤◌, true, List, length, None, refl, arith}
+use Rattle.std.proofs.Common.{◌≡◌, ℕ, ◌+◌, ◌*◌, ◌<◌, ◌≤◌, true, List, length, Some, None, Ok, Err, refl, arith}
 use Rattle.std.proofs.lemmas.Bool.{leb-true, le-leb, eqb-true, eq-eqb}
-use Rattle.rules.specs.First.{first_fault, too_short, wrong_version, wrong_count, wrong_length, wrong_moves, few_atoms, records_fault, count_fits}
+use Rattle.rules.specs.declared.faults.Fault.{Fault}
+use Rattle.rules.specs.declared.layout.Layout.{Layout}
+use Rattle.rules.specs.First.{verdict, first_fault, too_short, wrong_version, wrong_count, wrong_length, wrong_moves, few_atoms, records_fault, count_fits}
 use Rattle.rules.specs.Tables.{tables, layout_of, words_of, roles_in, atoms_in, fluents_in, moves_in}
 use Rattle.rules.specs.Taken.{Taken}
 use Rattle.rules.specs.Words.{word}
+use Rattle.rules.proofs.Firsts.{verdict_ok, verdict_err, verdict_value}
 use Rattle.rules.proofs.Headers.{count_fault, move_fault}
 use Rattle.rules.proofs.Passed.{unless_none, unless_true, both_none, none_both, first_each, each_first, records_pass, fit_faultless}
 
@@ -47,3 +50,11 @@ module _ (bs : List ℕ) where
           (none_both (count_fault bs 3) _ (unless_true _ _ n.2)
           (none_both (count_fault bs 4) _ (unless_true _ _ n.3)
           (none_both (count_fault bs 5) None (unless_true _ _ n.4) refl))))
+
+-- what a check's answer says of the bytes
+module _ (bs : List ℕ) where
+  pub accepted : (y : Layout) → verdict (first_fault bs) (layout_of bs) ≡ Ok y → (first_fault bs ≡ None) × Taken bs × (layout_of bs ≡ y)
+  accepted y e = let none = verdict_ok (first_fault bs) (layout_of bs) y e in (none, passed_taken bs none, verdict_value (first_fault bs) (layout_of bs) y e)
+
+  pub refused : (f : Fault) → verdict (first_fault bs) (layout_of bs) ≡ Err f → (first_fault bs ≡ Some f) × (Taken bs → ⊥)
+  refused f e = let some = verdict_err (first_fault bs) (layout_of bs) f e in (some, λ t. let none = taken_passed bs t in cc)

@@ -5,6 +5,7 @@ pub mod Tables
 pub mod Chains
 pub mod First
 pub mod Files
+pub mod Places
 pub mod Linked
 pub mod Summaries
 pub mod Typed

@@ -6,6 +6,8 @@ use crate::faults::Fault;
 use crate::file::File;
 use crate::header::read_layout;
 use crate::layout::Layout;
+use crate::linked::LinkedFile;
+use crate::records::{Atom, Literal, Rule};
 
 // The first fault of a rule file in checking order; or else what its header says. Nothing is allocated.
 pub fn check(bytes: &[u8]) -> Result<Layout, Fault>
@@ -13,9 +15,9 @@ pub fn check(bytes: &[u8]) -> Result<Layout, Fault>
 {
     let layout = read_layout(bytes)?;
     let file = File { bytes, layout };
-    file.check_atoms()?;
-    file.check_rules()?;
-    file.check_literals()?;
-    file.check_conditions()?;
+    file.check_all::<Atom>()?;
+    file.check_all::<Rule>()?;
+    file.check_all::<Literal>()?;
+    LinkedFile { file }.check_conditions()?;
     Ok(layout)
 }

@@ -1,14 +1,16 @@
-ghost use Rattle.std.specs.Prelude.{◌≡◌, ℕ, ◌+◌, ◌<◌, ◌≤◌, length, slice_index_or};
+ghost use Rattle.std.specs.Prelude.{◌≡◌, ◌<◌, ◌≤◌, slice_index_or};
 ghost use Rattle.std.specs.List.{range_with_len};
 ghost use Rattle.rules.specs.Chains.{chain};
 ghost use Rattle.rules.specs.Files.{held};
 ghost use Rattle.rules.specs.First.{verdict, first, literal_fits, literal_fault_under, body_fault, head_fault};
-ghost use Rattle.rules.specs.Linked.{Linked};
 ghost use Rattle.rules.specs.Summaries.{empty, joined, literal_summary, fits_head, Bodies, Heads};
 
+use crate::chain::Chained;
 use crate::faults::Fault;
-use crate::file::File;
-use crate::summaries::{EMPTY, Summary};
+use crate::heads::Head;
+use crate::linked::LinkedFile;
+use crate::records::{Atom, Literal, Rule};
+use crate::summaries::Summary;
 
 impl Summary {
     fn join(self, other: Summary) -> Summary
@@ -21,40 +23,28 @@ impl Summary {
     }
 }
 
-impl File<'_> {
+impl LinkedFile<'_> {
     // What a literal asks of its head.
     fn literal_summary(self, literal: u16) -> Summary
-        requires linked { Linked self.layout (held self) }
         requires above { 0 < literal }
-        requires within { literal ≤ self.layout.literals }
-        ensures { result ≡ literal_summary (held self.entry) literal }
+        requires within { literal ≤ self.file.layout.literals }
+        ensures { result ≡ literal_summary (held self.entry.file) literal }
     {
-        let atom = self.literal_word(literal, 0);
+        let literal = self.file.row::<Literal>(literal);
+        let atom = self.file.row::<Atom>(literal.word(0));
         Summary {
-            stratum: u32::from(self.atom_word(atom, 0)) + u32::from(self.literal_word(literal, 1)),
-            dependent: self.atom_word(atom, 1) == 1,
+            stratum: u32::from(atom.word(0)) + u32::from(literal.word(1)),
+            dependent: atom.word(1) == 1,
         }
-    }
-
-    // Whether all that was summed up fits the head.
-    fn fits(self, head: u16, summary: Summary) -> bool
-        requires above { 0 < head }
-        requires within { head ≤ self.layout.atoms }
-        ensures { result ≡ fits_head (held self.entry) head summary }
-    {
-        (self.atom_word(head, 1) == 1 || !summary.dependent)
-            && summary.stratum <= u32::from(self.atom_word(head, 0))
     }
 
     // bodies[l] sums up the chain from literal l on; 0 is the empty chain.
     fn sum_up_bodies(self, bodies: &mut [Summary; 8001])
-        requires linked { Linked self.layout (held self) }
-        requires clear { slice_index_or bodies.old 0 empty ≡ empty }
-        ensures { Bodies self.entry.layout (held self.entry) bodies.new }
+        requires { slice_index_or bodies.old 0 empty ≡ empty }
+        ensures { Bodies self.entry.file.layout (held self.entry.file) bodies.new }
     {
-        for i in (0..self.layout.literals).rev() {
-            let literal = i + 1;
-            let next = self.literal_word(literal, 2);
+        for literal in (1..=self.file.layout.literals).rev() {
+            let next = Literal::next(&self.file.row(literal));
             bodies[usize::from(literal)] = self
                 .literal_summary(literal)
                 .join(bodies[usize::from(next)]);
@@ -63,103 +53,105 @@ impl File<'_> {
 
     // heads[r] sums up the bodies of the chain from rule r on.
     fn sum_up_rules(self, bodies: &[Summary; 8001], heads: &mut [Summary; 2049])
-        requires linked { Linked self.layout (held self) }
-        requires summed { Bodies self.layout (held self) bodies.now }
+        requires summed { Bodies self.file.layout (held self.file) bodies.now }
         requires clear { slice_index_or heads.old 0 empty ≡ empty }
-        ensures { Heads self.entry.layout (held self.entry) heads.new }
+        ensures { Heads self.entry.file.layout (held self.entry.file) heads.new }
     {
-        for i in (0..self.layout.rules).rev() {
-            let rule = i + 1;
-            let next = self.rule_word(rule, 0);
-            let body = self.rule_word(rule, 1);
-            heads[usize::from(rule)] = bodies[usize::from(body)].join(heads[usize::from(next)]);
+        for number in (1..=self.file.layout.rules).rev() {
+            let rule = self.file.row::<Rule>(number);
+            let next = Rule::next(&rule);
+            let body = rule.word(1);
+            heads[usize::from(number)] = bodies[usize::from(body)].join(heads[usize::from(next)]);
         }
     }
 
-    // The first literal of the chain from `from` on that does not fit the head.
-    fn check_body(self, head: u16, from: u16) -> Result<(), Fault>
-        requires linked { Linked self.layout (held self) }
-        requires above { 0 < head }
-        requires within { head ≤ self.layout.atoms }
-        requires known { from ≤ self.layout.literals }
-        ensures { result ≡ verdict (first (literal_fault_under self.entry.layout (held self.entry) head) (chain (held self.entry).next_literal self.entry.layout.literals from)) tt }
+    // The condition on marks and strata: heads ascending, then by their chains.
+    #[tactic(auto, using(crate::proofs::Firsts::range_next))]
+    pub fn check_conditions(self) -> Result<(), Fault>
+        ensures { let f = self.entry.file in result ≡ verdict (first (head_fault f.layout (held f)) (range_with_len 1 f.layout.atoms)) tt }
     {
-        let mut literal = from;
-        while literal != 0 {
-            if !self.fits(head, self.literal_summary(literal)) {
-                return Err(Fault::Condition(head, 2 * self.literal_at(literal, 0)));
+        let mut bodies = [Summary::default(); 8001];
+        self.sum_up_bodies(&mut bodies);
+        let mut heads = [Summary::default(); 2049];
+        self.sum_up_rules(&bodies, &mut heads);
+        for number in 1..=self.file.layout.atoms {
+            let head = Head {
+                links: self,
+                number,
+                bodies: &bodies,
+                heads: &heads,
+            };
+            head.check()?;
+        }
+        Ok(())
+    }
+}
+
+impl Head<'_> {
+    // Whether all that was summed up fits the head.
+    fn fits(self, summary: Summary) -> bool
+        ensures { result ≡ fits_head (held self.entry.links.file) self.entry.number summary }
+    {
+        let atom = self.links.file.row::<Atom>(self.number);
+        (atom.word(1) == 1 || !summary.dependent) && summary.stratum <= u32::from(atom.word(0))
+    }
+
+    fn fits_literal(self, literal: u16) -> bool
+        requires above { 0 < literal }
+        requires within { literal ≤ self.links.file.layout.literals }
+        ensures { result ≡ literal_fits (held self.entry.links.file) self.entry.number literal }
+    {
+        self.fits(self.links.literal_summary(literal))
+    }
+
+    // The first literal of the chain from `from` on that does not fit the head.
+    #[tactic(auto, using(crate::proofs::Walks::walk_inside))]
+    fn check_body(self, from: u16) -> Result<(), Fault>
+        requires { from ≤ self.links.file.layout.literals }
+        ensures { let f = self.entry.links.file in result ≡ verdict (first (literal_fault_under f.layout (held f) self.entry.number) (chain (held f).next_literal f.layout.literals from)) tt }
+    {
+        for literal in self.links.chain::<Literal>(from) {
+            if !self.fits_literal(literal) {
+                let row = self.links.file.row::<Literal>(literal);
+                return Err(Fault::Condition(self.number, row.at(0)));
             }
-            literal = self.literal_word(literal, 2);
         }
         Ok(())
     }
 
     // The first such literal of a rule; a body that fits as a whole is passed over.
-    fn check_rule_under(self, head: u16, rule: u16, bodies: &[Summary; 8001]) -> Result<(), Fault>
-        requires linked { Linked self.layout (held self) }
-        requires above { 0 < head }
-        requires within { head ≤ self.layout.atoms }
-        requires some { 0 < rule }
-        requires known { rule ≤ self.layout.rules }
-        requires summed { Bodies self.layout (held self) bodies.now }
-        ensures { result ≡ verdict (body_fault self.entry.layout (held self.entry) head rule) tt }
+    fn check_rule(self, rule: u16) -> Result<(), Fault>
+        requires above { 0 < rule }
+        requires within { rule ≤ self.links.file.layout.rules }
+        ensures { let f = self.entry.links.file in result ≡ verdict (body_fault f.layout (held f) self.entry.number rule) tt }
     {
-        let body = self.rule_word(rule, 1);
-        if self.fits(head, bodies[usize::from(body)]) {
+        let body = self.links.file.row::<Rule>(rule).word(1);
+        if self.fits(self.bodies[usize::from(body)]) {
             return Ok(());
         }
-        self.check_body(head, body)
+        self.check_body(body)
     }
 
     // The first such literal along the head's rules.
-    fn check_rules_of(self, head: u16, bodies: &[Summary; 8001]) -> Result<(), Fault>
-        requires linked { Linked self.layout (held self) }
-        requires above { 0 < head }
-        requires within { head ≤ self.layout.atoms }
-        requires summed { Bodies self.layout (held self) bodies.now }
-        ensures { result ≡ verdict (head_fault self.entry.layout (held self.entry) head) tt }
+    #[tactic(auto, using(crate::proofs::Walks::walk_inside))]
+    fn check_rules(self, from: u16) -> Result<(), Fault>
+        requires { from ≤ self.links.file.layout.rules }
+        ensures { let f = self.entry.links.file in result ≡ verdict (first (body_fault f.layout (held f) self.entry.number) (chain (held f).next_rule f.layout.rules from)) tt }
     {
-        let mut rule = self.atom_word(head, 2);
-        while rule != 0 {
-            self.check_rule_under(head, rule, bodies)?;
-            rule = self.rule_word(rule, 0);
+        for rule in self.links.chain::<Rule>(from) {
+            self.check_rule(rule)?;
         }
         Ok(())
     }
 
-    // A head whose rules fit as a whole is passed over.
-    fn check_head(
-        self,
-        head: u16,
-        bodies: &[Summary; 8001],
-        heads: &[Summary; 2049],
-    ) -> Result<(), Fault>
-        requires linked { Linked self.layout (held self) }
-        requires above { 0 < head }
-        requires within { head ≤ self.layout.atoms }
-        requires summed { Bodies self.layout (held self) bodies.now }
-        requires summed_rules { Heads self.layout (held self) heads.now }
-        ensures { result ≡ verdict (head_fault self.entry.layout (held self.entry) head) tt }
+    // The first such literal of the head; a head whose rules fit as a whole is passed over.
+    fn check(self) -> Result<(), Fault>
+        ensures { let f = self.entry.links.file in result ≡ verdict (head_fault f.layout (held f) self.entry.number) tt }
     {
-        let first = self.atom_word(head, 2);
-        if self.fits(head, heads[usize::from(first)]) {
+        let first = self.links.file.row::<Atom>(self.number).word(2);
+        if self.fits(self.heads[usize::from(first)]) {
             return Ok(());
         }
-        self.check_rules_of(head, bodies)
-    }
-
-    // The condition on marks and strata: heads ascending, then by their chains.
-    pub fn check_conditions(self) -> Result<(), Fault>
-        requires linked { Linked self.layout (held self) }
-        ensures { result ≡ verdict (first (head_fault self.entry.layout (held self.entry)) (range_with_len 1 self.entry.layout.atoms)) tt }
-    {
-        let mut bodies = [EMPTY; 8001];
-        self.sum_up_bodies(&mut bodies);
-        let mut heads = [EMPTY; 2049];
-        self.sum_up_rules(&bodies, &mut heads);
-        for head in 1..=self.layout.atoms {
-            self.check_head(head, &bodies, &heads)?;
-        }
-        Ok(())
+        self.check_rules(first)
     }
 }

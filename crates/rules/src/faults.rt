@@ -2,7 +2,7 @@ ghost use Rattle.std.specs.Prelude.{◌≡◌};
 ghost use Rattle.rules.specs.Faults.{report_of};
 ghost use Rattle.rules.specs.declared.faults.Refusal.TheVariants.{Faulty, Memory};
 
-use std::alloc::{AllocError, AllocFailed};
+use std::alloc::AllocError;
 
 // Why a rule file is refused, with the place in bytes where a case has one of its own.
 #[derive(Clone, Copy, PartialEq, Eq, Debug)]

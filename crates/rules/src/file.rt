@@ -1,4 +1,4 @@
-ghost use Rattle.std.specs.Prelude.{◌≡◌, ◌*◌, length};
+ghost use Rattle.std.specs.Prelude.{◌≡◌, ◌*◌, ◌^◌, ◌<◌, length};
 ghost use Rattle.rules.specs.Tables.{words_of};
 ghost use Rattle.rules.specs.Linked.{Limited};
 
@@ -11,4 +11,5 @@ pub struct File<'a> {
     pub layout: Layout,
     ghost sized: { length bytes.now ≡ 2 * words_of layout },
     ghost limited: { Limited layout },
+    ghost small: { words_of layout < 2 ^ 32 },
 }

@@ -9,39 +9,30 @@ use crate::faults::Fault;
 use crate::layout::Layout;
 use crate::words::word;
 
-// Whether count i of the header is inside its limits: fluents, roles, atoms, rules, literals.
-fn count_in_limits(i: usize, count: u16) -> bool
-    ensures { result ≡ count_fits i count }
-{
-    match i {
-        1 => count >= 1 && count <= 64,
-        2 => count >= 1 && count <= 8,
-        3 => count >= 1 && count <= 512,
-        4 => count <= 2048,
-        _ => count <= 8000,
-    }
-}
-
-fn check_count(bytes: &[u8], i: usize) -> Result<(), Fault>
+// Word i of the header is a count, with limits.
+fn check_count(bytes: &[u8], i: usize, least: u16, most: u16) -> Result<(), Fault>
     requires header { 12 ≤ length bytes.now }
     requires index { i < 6 }
-    ensures { result ≡ verdict (unless (count_fits i (word_at bytes.now i)) (Count (2 * i))) tt }
+    ensures { result ≡ verdict (unless (inside least most (word_at bytes.now i)) (Count (2 * i))) tt }
 {
-    if count_in_limits(i, word(bytes, i)) {
+    let count = word(bytes, i);
+    if count >= least && count <= most {
         Ok(())
     } else {
         Err(Fault::Count(2 * i))
     }
 }
 
+// Fluents, roles, atoms, rules, literals.
 fn check_counts(bytes: &[u8]) -> Result<(), Fault>
     requires { 12 ≤ length bytes.now }
     ensures { result ≡ verdict (wrong_count bytes.now) tt }
 {
-    for i in 1..6 {
-        check_count(bytes, i)?;
-    }
-    Ok(())
+    check_count(bytes, 1, 1, 64)?;
+    check_count(bytes, 2, 1, 8)?;
+    check_count(bytes, 3, 1, 512)?;
+    check_count(bytes, 4, 0, 2048)?;
+    check_count(bytes, 5, 0, 8000)
 }
 
 // How many moves a role has, counted from 0.
@@ -60,6 +51,7 @@ fn move_count(bytes: &[u8], role: u16) -> Result<u16, Fault>
 }
 
 // How many moves the roles have together.
+#[tactic(auto, using(crate::proofs::Firsts::range_next, crate::proofs::Headers::total_more))]
 fn total_moves(bytes: &[u8], roles: u16) -> Result<u16, Fault>
     requires known { roles ≡ roles_in bytes.now }
     requires few { roles ≤ 8 }

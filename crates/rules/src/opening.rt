@@ -26,9 +26,9 @@ impl File<'_> {
         ensures { IfOk result (λ rules. Says self.entry.bytes.now rules) }
     {
         let moves = self.moves(heap)?;
-        let atoms = self.atoms(heap)?;
-        let rules = self.rules(heap)?;
-        let literals = self.literals(heap)?;
+        let atoms = self.records(heap)?;
+        let rules = self.records(heap)?;
+        let literals = self.records(heap)?;
         Ok(Rules {
             layout: self.layout,
             moves,

@@ -1,12 +1,37 @@
-ghost use Rattle.std.specs.Prelude.{◌≡◌, ◌+◌, ◌<◌, ◌≤◌, not};
-ghost use Rattle.std.specs.List.{range_with_len};
-ghost use Rattle.rules.specs.Files.{held};
-ghost use Rattle.rules.specs.First.{verdict, first, atom_fault, rule_fault, literal_fault, stratum_fits, mark_fits, first_rule_fits, next_fits, name_fits, is_next};
+ghost use Rattle.std.specs.Prelude.{◌≡◌, not};
+ghost use Rattle.rules.specs.First.{atom_fault, rule_fault, literal_fault, stratum_fits, mark_fits, first_rule_fits, name_fits, is_next};
+ghost use Rattle.rules.specs.Typed.{mark_of, sign_of, atom_in, rule_in, literal_in};
 
 use crate::faults::Fault;
-use crate::file::File;
 use crate::kinds::Kind;
 use crate::layout::Layout;
+use crate::links::leads_later;
+use crate::record::Record;
+use crate::records::{Atom, Literal, Mark, Rule, Sign};
+use crate::rows::Row;
+
+impl From<u16> for Mark {
+    ghost from_gives = { λ word mark. mark ≡ mark_of word };
+
+    fn from(word: u16) -> Mark {
+        match word {
+            0 => Mark::Still,
+            1 => Mark::Dependent,
+            _ => Mark::Initial,
+        }
+    }
+}
+
+impl From<u16> for Sign {
+    ghost from_gives = { λ word sign. sign ≡ sign_of word };
+
+    fn from(word: u16) -> Sign {
+        match word {
+            0 => Sign::Plain,
+            _ => Sign::Negated,
+        }
+    }
+}
 
 impl Kind {
     // Whether an atom of this kind may have this stratum.
@@ -51,13 +76,6 @@ impl Kind {
     }
 }
 
-// Whether the next of a record, of so many, is 0 or a later record.
-fn leads_later(from: u16, count: u16, next: u16) -> bool
-    ensures { result ≡ next_fits from count next }
-{
-    next == 0 || (next > from && next <= count)
-}
-
 impl Layout {
     fn has_named(self, atom: u16) -> bool
         ensures { result ≡ name_fits self atom }
@@ -66,80 +84,79 @@ impl Layout {
     }
 }
 
-impl File<'_> {
-    // The words of an atom record, in their order; so for the other records.
-    fn check_atom(self, atom: u16) -> Result<(), Fault>
-        requires above { 0 < atom }
-        requires within { atom ≤ self.layout.atoms }
-        ensures { result ≡ verdict (atom_fault self.entry.layout (held self.entry) atom) tt }
-    {
-        let kind = self.layout.kind(atom);
-        if !kind.has_stratum(self.atom_word(atom, 0)) {
-            return Err(Fault::AtomWord(2 * self.atom_at(atom, 0)));
+impl Record for Atom {
+    ghost record_in = { atom_in };
+
+    ghost fault = { atom_fault };
+
+    fn read(row: &Row<'_, Atom>) -> Atom {
+        Atom {
+            stratum: row.word(0),
+            mark: Mark::from(row.word(1)),
+            first: row.word(2),
         }
-        if !kind.has_mark(self.atom_word(atom, 1)) {
-            return Err(Fault::AtomWord(2 * self.atom_at(atom, 1)));
+    }
+
+    fn check(row: &Row<'_, Atom>) -> Result<(), Fault> {
+        let kind = row.file.layout.kind(row.number);
+        if !kind.has_stratum(row.word(0)) {
+            return Err(Fault::AtomWord(row.at(0)));
         }
-        if !kind.has_first_rule(self.layout.rules, self.atom_word(atom, 2)) {
-            return Err(Fault::AtomWord(2 * self.atom_at(atom, 2)));
+        if !kind.has_mark(row.word(1)) {
+            return Err(Fault::AtomWord(row.at(1)));
+        }
+        if !kind.has_first_rule(row.file.layout.rules, row.word(2)) {
+            return Err(Fault::AtomWord(row.at(2)));
         }
         Ok(())
     }
+}
 
-    fn check_rule(self, rule: u16) -> Result<(), Fault>
-        requires above { 0 < rule }
-        requires within { rule ≤ self.layout.rules }
-        ensures { result ≡ verdict (rule_fault self.entry.layout (held self.entry) rule) tt }
-    {
-        if !leads_later(rule, self.layout.rules, self.rule_word(rule, 0)) {
-            return Err(Fault::RuleWord(2 * self.rule_at(rule, 0)));
+impl Record for Rule {
+    ghost record_in = { rule_in };
+
+    ghost fault = { rule_fault };
+
+    fn read(row: &Row<'_, Rule>) -> Rule {
+        Rule {
+            next: row.word(0),
+            first: row.word(1),
         }
-        if self.rule_word(rule, 1) > self.layout.literals {
-            return Err(Fault::RuleWord(2 * self.rule_at(rule, 1)));
+    }
+
+    fn check(row: &Row<'_, Rule>) -> Result<(), Fault> {
+        if !leads_later(row.number, row.file.layout.rules, row.word(0)) {
+            return Err(Fault::RuleWord(row.at(0)));
+        }
+        if row.word(1) > row.file.layout.literals {
+            return Err(Fault::RuleWord(row.at(1)));
         }
         Ok(())
     }
+}
 
-    fn check_literal(self, literal: u16) -> Result<(), Fault>
-        requires above { 0 < literal }
-        requires within { literal ≤ self.layout.literals }
-        ensures { result ≡ verdict (literal_fault self.entry.layout (held self.entry) literal) tt }
-    {
-        if !self.layout.has_named(self.literal_word(literal, 0)) {
-            return Err(Fault::LiteralWord(2 * self.literal_at(literal, 0)));
+impl Record for Literal {
+    ghost record_in = { literal_in };
+
+    ghost fault = { literal_fault };
+
+    fn read(row: &Row<'_, Literal>) -> Literal {
+        Literal {
+            atom: row.word(0),
+            sign: Sign::from(row.word(1)),
+            next: row.word(2),
         }
-        if self.literal_word(literal, 1) > 1 {
-            return Err(Fault::LiteralWord(2 * self.literal_at(literal, 1)));
-        }
-        if !leads_later(literal, self.layout.literals, self.literal_word(literal, 2)) {
-            return Err(Fault::LiteralWord(2 * self.literal_at(literal, 2)));
-        }
-        Ok(())
     }
 
-    pub fn check_atoms(self) -> Result<(), Fault>
-        ensures { result ≡ verdict (first (atom_fault self.entry.layout (held self.entry)) (range_with_len 1 self.entry.layout.atoms)) tt }
-    {
-        for atom in 1..=self.layout.atoms {
-            self.check_atom(atom)?;
+    fn check(row: &Row<'_, Literal>) -> Result<(), Fault> {
+        if !row.file.layout.has_named(row.word(0)) {
+            return Err(Fault::LiteralWord(row.at(0)));
         }
-        Ok(())
-    }
-
-    pub fn check_rules(self) -> Result<(), Fault>
-        ensures { result ≡ verdict (first (rule_fault self.entry.layout (held self.entry)) (range_with_len 1 self.entry.layout.rules)) tt }
-    {
-        for rule in 1..=self.layout.rules {
-            self.check_rule(rule)?;
+        if row.word(1) > 1 {
+            return Err(Fault::LiteralWord(row.at(1)));
         }
-        Ok(())
-    }
-
-    pub fn check_literals(self) -> Result<(), Fault>
-        ensures { result ≡ verdict (first (literal_fault self.entry.layout (held self.entry)) (range_with_len 1 self.entry.layout.literals)) tt }
-    {
-        for literal in 1..=self.layout.literals {
-            self.check_literal(literal)?;
+        if !leads_later(row.number, row.file.layout.literals, row.word(2)) {
+            return Err(Fault::LiteralWord(row.at(2)));
         }
         Ok(())
     }

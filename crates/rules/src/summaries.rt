@@ -1,12 +1,7 @@
 // What a head must have so that all literals of a chain fit it: the least stratum, and whether moves must matter to it.
-#[derive(Clone, Copy)]
+// By default there is no literal, and any head will do.
+#[derive(Clone, Copy, Default)]
 pub struct Summary {
     pub stratum: u32,
     pub dependent: bool,
 }
-
-// No literal: any head will do.
-pub const EMPTY: Summary = Summary {
-    stratum: 0,
-    dependent: false,
-};

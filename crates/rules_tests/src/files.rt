@@ -24,24 +24,15 @@ pub fn bytes_of(heap: Global, words: &[u16]) -> Result<Vec<u8>, AllocError> {
 
 // Writes a word at an offset.
 pub fn put(bytes: &mut Vec<u8>, place: usize, word: u16) {
-    let [high, low] = word.to_be_bytes();
-    if let Some(b) = bytes.get_mut(place) {
-        *b = high;
-    }
-    if let Some(b) = bytes.get_mut(place.saturating_add(1)) {
-        *b = low;
+    for (byte, new) in bytes.iter_mut().skip(place).zip(word.to_be_bytes()) {
+        *byte = new;
     }
 }
 
-// The number and place of the fault; 0 and 0 where the file is taken.
-pub fn answer(bytes: &[u8]) -> (u8, usize) {
-    match check(bytes) {
-        Ok(_) => (0, 0),
-        Err(fault) => {
-            let report = fault.report();
-            (report.number, report.place)
-        }
-    }
+// The number and place of the fault, if there is one.
+pub fn answer(bytes: &[u8]) -> Option<(u8, usize)> {
+    let report = check(bytes).err()?.report();
+    Some((report.number, report.place))
 }
 
 // How many of each there are, and how many moves each role has.

@@ -8,17 +8,20 @@ fn lengths(rt: HostRuntime) -> Result<(), Fail> {
     assert!(rt; bytes.len() == 96);
     for length in 0..96 {
         let number = if length < 12 { 1 } else { 4 };
-        assert_eq!(rt; answer(&bytes.as_slice()[0..length]), (number, length));
+        assert_eq!(rt;
+            answer(&bytes.as_slice()[0..length]),
+            Some((number, length))
+        );
     }
-    assert_eq!(rt; answer(bytes.as_slice()), (0, 0));
+    assert_eq!(rt; answer(bytes.as_slice()), None);
     bytes.push(0)?;
-    assert_eq!(rt; answer(bytes.as_slice()), (4, 97));
+    assert_eq!(rt; answer(bytes.as_slice()), Some((4, 97)));
     Ok(())
 }
 
-// A size, and the number and place of the fault.
-const SIZES: [(Size, u8, usize); 17] = [
-    (SMALL, 0, 0),
+// A size, and the number and place of the fault, if there is one.
+const SIZES: [(Size, Option<(u8, usize)>); 17] = [
+    (SMALL, None),
     (
         Size {
             fluents: 0,
@@ -28,8 +31,7 @@ const SIZES: [(Size, u8, usize); 17] = [
             rules: 0,
             literals: 0,
         },
-        3,
-        2,
+        Some((3, 2)),
     ),
     (
         Size {
@@ -40,8 +42,7 @@ const SIZES: [(Size, u8, usize); 17] = [
             rules: 0,
             literals: 0,
         },
-        0,
-        0,
+        None,
     ),
     (
         Size {
@@ -52,8 +53,7 @@ const SIZES: [(Size, u8, usize); 17] = [
             rules: 0,
             literals: 0,
         },
-        5,
-        6,
+        Some((5, 6)),
     ),
     (
         Size {
@@ -64,8 +64,7 @@ const SIZES: [(Size, u8, usize); 17] = [
             rules: 0,
             literals: 0,
         },
-        3,
-        2,
+        Some((3, 2)),
     ),
     (
         Size {
@@ -76,8 +75,7 @@ const SIZES: [(Size, u8, usize); 17] = [
             rules: 0,
             literals: 0,
         },
-        0,
-        0,
+        None,
     ),
     (
         Size {
@@ -88,8 +86,7 @@ const SIZES: [(Size, u8, usize); 17] = [
             rules: 0,
             literals: 0,
         },
-        5,
-        6,
+        Some((5, 6)),
     ),
     (
         Size {
@@ -100,8 +97,7 @@ const SIZES: [(Size, u8, usize); 17] = [
             rules: 0,
             literals: 0,
         },
-        3,
-        4,
+        Some((3, 4)),
     ),
     (
         Size {
@@ -112,8 +108,7 @@ const SIZES: [(Size, u8, usize); 17] = [
             rules: 0,
             literals: 0,
         },
-        0,
-        0,
+        None,
     ),
     (
         Size {
@@ -124,8 +119,7 @@ const SIZES: [(Size, u8, usize); 17] = [
             rules: 0,
             literals: 0,
         },
-        5,
-        12,
+        Some((5, 12)),
     ),
     (
         Size {
@@ -136,8 +130,7 @@ const SIZES: [(Size, u8, usize); 17] = [
             rules: 0,
             literals: 0,
         },
-        5,
-        12,
+        Some((5, 12)),
     ),
     (
         Size {
@@ -148,8 +141,7 @@ const SIZES: [(Size, u8, usize); 17] = [
             rules: 0,
             literals: 0,
         },
-        0,
-        0,
+        None,
     ),
     (
         Size {
@@ -160,8 +152,7 @@ const SIZES: [(Size, u8, usize); 17] = [
             rules: 0,
             literals: 0,
         },
-        3,
-        6,
+        Some((3, 6)),
     ),
     (
         Size {
@@ -172,8 +163,7 @@ const SIZES: [(Size, u8, usize); 17] = [
             rules: 2048,
             literals: 0,
         },
-        0,
-        0,
+        None,
     ),
     (
         Size {
@@ -184,8 +174,7 @@ const SIZES: [(Size, u8, usize); 17] = [
             rules: 2049,
             literals: 0,
         },
-        3,
-        8,
+        Some((3, 8)),
     ),
     (
         Size {
@@ -196,8 +185,7 @@ const SIZES: [(Size, u8, usize); 17] = [
             rules: 0,
             literals: 8000,
         },
-        0,
-        0,
+        None,
     ),
     (
         Size {
@@ -208,16 +196,15 @@ const SIZES: [(Size, u8, usize); 17] = [
             rules: 0,
             literals: 8001,
         },
-        3,
-        10,
+        Some((3, 10)),
     ),
 ];
 
 #[test]
 fn sizes(rt: HostRuntime) -> Result<(), Fail> {
-    for (size, number, place) in SIZES {
+    for (size, fault) in SIZES {
         let bytes = size.file(rt.alloc())?;
-        assert_eq!(rt; answer(bytes.as_slice()), (number, place));
+        assert_eq!(rt; answer(bytes.as_slice()), fault);
     }
     Ok(())
 }
@@ -234,14 +221,14 @@ fn the_largest_file(rt: HostRuntime) -> Result<(), Fail> {
     };
     let mut bytes = size.file(rt.alloc())?;
     assert_eq!(rt; bytes.len(), 59292);
-    assert_eq!(rt; answer(bytes.as_slice()), (0, 0));
+    assert_eq!(rt; answer(bytes.as_slice()), None);
     // the last rule may name the last literal, and nothing past it
     let last_rule = 2 * (14 + 3 * 512 + 2 * 2047);
     put(&mut bytes, last_rule + 2, 8000);
-    assert_eq!(rt; answer(bytes.as_slice()), (0, 0));
+    assert_eq!(rt; answer(bytes.as_slice()), None);
     put(&mut bytes, last_rule + 2, 8001);
-    assert_eq!(rt; answer(bytes.as_slice()), (7, last_rule + 2));
+    assert_eq!(rt; answer(bytes.as_slice()), Some((7, last_rule + 2)));
     put(&mut bytes, last_rule, 2048);
-    assert_eq!(rt; answer(bytes.as_slice()), (7, last_rule));
+    assert_eq!(rt; answer(bytes.as_slice()), Some((7, last_rule)));
     Ok(())
 }

@@ -26,7 +26,7 @@ module _ (closed : List ℕ → Bool) (s : Inputs) (f : List ℕ) (full : Full s
 
     covers_branches : (ts : Trees) (c : List ℕ) (k b : ℕ) → entries s ≤ length c → k < entries s → CloseBranches closed s ts c k b → Agrees s c f → b < get_or f k 0 → get_or f k 0 ≤ branch_count s k
         → (e : List ℕ) × EndBranches ts c k b e × (closed e ≡ true) × Agrees s e f
-    covers_branches no_more c k b l i h a p q = let n : ⊥ = omega arith in absurd n
+    covers_branches no_more c k b l i h a p q = absurd (omega arith)
     covers_branches (branch t ts) c k b l i (g, h) a p q =
         ⊎_elim
         (λ y.

@@ -8,7 +8,6 @@ use Rattle.std.proofs.lemmas.List.{append_assoc, length-append, set-set, set-get
 use Rattle.std.proofs.lemmas.Bool.{cond-true, cond-false}
 use Rattle.splits.proofs.Wholes.{length_file}
 use Rattle.splits.proofs.SplitWords.{kind_word, number_word, level_word}
-use Rattle.splits.proofs.Stacks.{stack}
 
 abbrev pub tree_of : Drawn → Tree
 tree_of (made t) = t
@@ -34,13 +33,13 @@ module _ (closed : List ℕ → Bool) (inp : Inputs) where
   Drawing c₀ d at c (o ∷ os) =
       (d ≡ o.input + 1) × (o.input < entries inp) × (o.branch < branch_count inp o.input) × (get_or c o.input 0 ≡ o.branch + 1) × (closed (set c o.input 0) ≡ false)
       × ((j : ℕ) → j < o.branch → sub (set c o.input 0) o.input j ≡ made (tree_of (sub (set c o.input 0) o.input j)))
-      × (at ≡ o.at + 1 + done_size (sub (set c o.input 0) o.input) o.branch)
-      × Drawing c₀ o.input o.at (set c o.input 0) os
+      × (at ≡ o.number + 1 + done_size (sub (set c o.input 0) o.input) o.branch)
+      × Drawing c₀ o.input o.number (set c o.input 0) os
 
   -- the words of the open splits and of their branches that are drawn
   abbrev pub written : List ℕ → List Case → List ℕ
   written c [] = []
-  written c (o ∷ os) = written (set c o.input 0) os ++ (kind_word inp o.input ∷ number_word inp o.input ∷ level_word inp o.input ∷ 0 ∷ done_files inp (sub (set c o.input 0) o.input) o.branch (o.at + 1))
+  written c (o ∷ os) = written (set c o.input 0) os ++ (kind_word inp o.input ∷ number_word inp o.input ∷ level_word inp o.input ∷ 0 ∷ done_files inp (sub (set c o.input 0) o.input) o.branch (o.number + 1))
 
   pub record Over (c₀ : List ℕ) (d i at : ℕ) (c : List ℕ) (s : List Case) (area : List ℕ) (area_size : ℕ) : Type 0 where
     pub tree : Tree
@@ -53,10 +52,10 @@ module _ (closed : List ℕ → Bool) (inp : Inputs) where
   State c₀ d at c s area room area_size None = Drawing c₀ d at c s × (at < room → area ≡ bytes (written c s) ++ replicate (area_size - 8 * at) 0)
   State c₀ d at c s area room area_size (Some i) = Over c₀ d i at c s area area_size
 
-  pub record Drafting (c₀ : List ℕ) (d at : ℕ) (c : List ℕ) (cs : List Case) (area : List ℕ) (room area_size : ℕ) (over : Option ℕ) : Type 0 where
+  pub record Drafting (c₀ : List ℕ) (at : ℕ) (c : List ℕ) (s : List Case) (area : List ℕ) (room area_size : ℕ) (over : Option ℕ) : Type 0 where
     pub within : at ≤ room
-    pub shallow : first_input inp + d ≤ entries inp
-    pub state : State c₀ (first_input inp + d) at c (stack d cs) area room area_size over
+    pub shallow : first_input inp + length s ≤ entries inp
+    pub state : State c₀ (first_input inp + length s) at c s area room area_size over
 
 -- Over the branches of one split.
 abbrev pub trees_from : (ℕ → Drawn) → ℕ → ℕ → Trees
@@ -182,9 +181,9 @@ module _ (closed : List ℕ → Bool) (inp : Inputs) where
     up_shows (o ∷ os) d at c m x w h =
         let k = o.input in
         let g = sub closed inp (set c k 0) k in
-        let e : o.at + (1 + (done_size g o.branch + m)) ≡ at + m = omega (arith, w.6) in
+        let e : o.number + (1 + (done_size g o.branch + m)) ≡ at + m = omega (arith, w.6) in
         let t = around d at c o os w ∙ (ap (λ q. node k (after g o.branch (joined q (each g (branch_count inp k - (o.branch + 1)) (o.branch + 1))))) h ∙ ap (node k) (after_shows inp g o.branch m x w.5)) in
-        up_shows os k o.at (set c k 0) (1 + (done_size g o.branch + m)) x w.7 t ∙ ap (λ q. shows q x) e
+        up_shows os k o.number (set c k 0) (1 + (done_size g o.branch + m)) x w.7 t ∙ ap (λ q. shows q x) e
 
     pub node_needs : (k : ℕ) (r : Drawns) → needed (node k r) ≡ 1 + needs_all r
     node_needs k (mades ts) = refl
@@ -202,5 +201,5 @@ module _ (closed : List ℕ → Bool) (inp : Inputs) where
         let p : needed (plain_from closed inp k (set c k 0)) ≡ 1 + needs_all (after g o.branch (joined now r)) = ap needed (around d at c o os w) ∙ node_needs k (after g o.branch (joined now r)) in
         let q = after_needs inp g o.branch (joined now r) w.5 in
         let l = joined_low now r in
-        let i = up_needs os k o.at (set c k 0) w.7 in
+        let i = up_needs os k o.number (set c k 0) w.7 in
         omega (arith, w.6)

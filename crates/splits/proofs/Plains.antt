@@ -18,12 +18,12 @@ words_bytes (w ∷ ws) = let e : w / 256 * 256 + w % 256 ≡ w = omega arith in 
 
 node_made : (k : ℕ) (r : Drawns) (t : Tree) → node k r ≡ made t → (ts : Trees) × (r ≡ mades ts) × (t ≡ split k ts)
 node_made k (mades ts) t h = (ts, refl, cc)
-node_made k (shows_after m c) t h = let z : ◌≡◌ {A = ℕ} 0 1 = cc in let n : ⊥ = omega arith in absurd n
+node_made k (shows_after m c) t h = absurd (cc)
 
 joined_made : (d : Drawn) (r : Drawns) (ts : Trees) → joined d r ≡ mades ts → (t : Tree) × (us : Trees) × (d ≡ made t) × (r ≡ mades us) × (ts ≡ branch t us)
 joined_made (made t) (mades us) ts h = (t, us, refl, refl, cc)
-joined_made (made t) (shows_after m c) ts h = let z : ◌≡◌ {A = ℕ} 0 1 = cc in let n : ⊥ = omega arith in absurd n
-joined_made (shows m c) r ts h = let z : ◌≡◌ {A = ℕ} 0 1 = cc in let n : ⊥ = omega arith in absurd n
+joined_made (made t) (shows_after m c) ts h = absurd (cc)
+joined_made (shows m c) r ts h = absurd (cc)
 
 module _ (closed : List ℕ → Bool) (inp : Inputs) where
   each_closes : (g : ℕ → Drawn) (c : List ℕ) (k more b : ℕ) (ts : Trees) → ((j : ℕ) (t : Tree) → g j ≡ made t → Closes closed inp t (set c k (j + 1)))
@@ -39,7 +39,7 @@ module _ (closed : List ℕ → Bool) (inp : Inputs) where
   plain_closes_from zero k c t e f o h =
       ⊎_elim
       (λ q. let f = sym (cond-true _ _ _ q) ∙ h in let s : close ≡ t = cc in subst (λ x. Closes closed inp x c) s q)
-      (λ q. let f = sym (cond-false _ _ _ q) ∙ h in let z : ◌≡◌ {A = ℕ} 0 1 = cc in let n : ⊥ = omega arith in absurd n)
+      (λ q. let f = sym (cond-false _ _ _ q) ∙ h in absurd (cc))
       (cases_Bool (closed c))
   plain_closes_from (suc left) k c t e f o h =
       ⊎_elim
@@ -65,16 +65,16 @@ plain_closes closed inp c t p l o h =
 
 -- What is shown.
 node_shows : (k : ℕ) (r : Drawns) (m : ℕ) (e : List ℕ) → node k r ≡ shows m e → (n : ℕ) × (r ≡ shows_after n e)
-node_shows k (mades ts) m e h = let z : ◌≡◌ {A = ℕ} 0 1 = cc in let n : ⊥ = omega arith in absurd n
+node_shows k (mades ts) m e h = absurd (cc)
 node_shows k (shows_after n c) m e h = (n, let q : c ≡ e = cc in ap (shows_after n) q)
 
 joined_shows : (d : Drawn) (r : Drawns) (m : ℕ) (e : List ℕ) → joined d r ≡ shows_after m e → ((n : ℕ) × (d ≡ shows n e)) ⊎ ((n : ℕ) × (r ≡ shows_after n e))
-joined_shows (made t) (mades us) m e h = let z : ◌≡◌ {A = ℕ} 0 1 = cc in let n : ⊥ = omega arith in absurd n
+joined_shows (made t) (mades us) m e h = absurd (cc)
 joined_shows (made t) (shows_after n c) m e h = inr (n, let q : c ≡ e = cc in ap (shows_after n) q)
 joined_shows (shows n c) r m e h = inl (n, let q : c ≡ e = cc in ap (shows n) q)
 
 each_shows : (g : ℕ → Drawn) (more b m : ℕ) (e : List ℕ) → each g more b ≡ shows_after m e → (j : ℕ) × (n : ℕ) × (j < b + more) × (g j ≡ shows n e)
-each_shows g zero b m e h = let z : ◌≡◌ {A = ℕ} 0 1 = cc in let n : ⊥ = omega arith in absurd n
+each_shows g zero b m e h = absurd (cc)
 each_shows g (suc more) b m e h =
     ⊎_elim
     (λ p. (b, p.0, omega arith, p.1))
@@ -107,17 +107,17 @@ module _ (closed : List ℕ → Bool) (inp : Inputs) where
   met_here : (k : ℕ) (c e : List ℕ) (m : ℕ) → closed c ≡ false → shows 0 c ≡ shows m e → Met k 0 c e
   met_here k c e m q h =
       let x : c ≡ e = cc in
-      subst (λ y. Met k 0 c y) x (record { fails = q; long = refl; settled = λ j a u. let n : ⊥ = omega arith in absurd n; before = λ j a. refl; behind = λ j a. refl })
+      subst (λ y. Met k 0 c y) x (record { fails = q; long = refl; settled = λ j a u. absurd (omega arith); before = λ j a. refl; behind = λ j a. refl })
 
   meets : (left k : ℕ) (c : List ℕ) (m : ℕ) (e : List ℕ) → k + left ≤ length c → plain closed inp left k c ≡ shows m e → Met k left c e
   meets zero k c m e l h =
       ⊎_elim
-      (λ q. let f = sym (cond-true _ _ _ q) ∙ h in let z : ◌≡◌ {A = ℕ} 0 1 = cc in let n : ⊥ = omega arith in absurd n)
+      (λ q. let f = sym (cond-true _ _ _ q) ∙ h in absurd (cc))
       (λ q. met_here k c e m q (sym (cond-false _ _ _ q) ∙ h))
       (cases_Bool (closed c))
   meets (suc left) k c m e l h =
       ⊎_elim
-      (λ q. let f = sym (cond-true _ _ _ q) ∙ h in let z : ◌≡◌ {A = ℕ} 0 1 = cc in let n : ⊥ = omega arith in absurd n)
+      (λ q. let f = sym (cond-true _ _ _ q) ∙ h in absurd (cc))
       (λ q.
       let g : ℕ → Drawn = λ b. plain closed inp left (k + 1) (set c k (b + 1)) in
       let p = node_shows k (each g (branch_count inp k) 0) m e (sym (cond-false _ _ _ q) ∙ h) in
@@ -146,8 +146,8 @@ taken_from : (closed : List ℕ → Bool) (inp : Inputs) (c area : List ℕ) (n 
     → (d : Drawn) → drawn closed inp c ≡ d → drafted (places area) d ≡ Ok (File n) → walked closed inp (take (8 * n) (area_after inp (length area) (places area) d)) c ≡ Ok tt
 taken_from closed inp c area n p l o (shows m e) h q =
     ⊎_elim
-    (λ b. let f = sym (cond-true _ _ _ b) ∙ q in let z : ◌≡◌ {A = ℕ} 0 1 = cc in let n : ⊥ = omega arith in absurd n)
-    (λ b. let f = sym (cond-false _ _ _ b) ∙ q in let z : ◌≡◌ {A = ℕ} 0 1 = cc in let n : ⊥ = omega arith in absurd n)
+    (λ b. let f = sym (cond-true _ _ _ b) ∙ q in absurd (cc))
+    (λ b. let f = sym (cond-false _ _ _ b) ∙ q in absurd (cc))
     (cases_Bool (leb m (places area)))
 taken_from closed inp c area n p l o (made t) h q =
     ⊎_elim
@@ -162,7 +162,7 @@ taken_from closed inp c area n p l o (made t) h q =
     let w : take (8 * n) (area_after inp (length area) (places area) (made t)) ≡ bytes (file inp t 0 true) =
     ap (take (8 * n)) (cond-true _ _ _ b) ∙ take_at (bytes (file inp t 0 true)) zs (8 * n) (omega arith) in
     ap (λ bs. walked closed inp bs c) w ∙ (plain_closes closed inp c t p l o h).1 (omega (arith, x.1)))
-    (λ b. let f = sym (cond-false _ _ _ b) ∙ q in let z : ◌≡◌ {A = ℕ} 0 1 = cc in let n : ⊥ = omega arith in absurd n)
+    (λ b. let f = sym (cond-false _ _ _ b) ∙ q in absurd (cc))
     (cases_Bool (leb (size t) (places area)))
 
 pub draft_is_taken : (closed : List ℕ → Bool) → DraftIsTaken closed

@@ -2,7 +2,8 @@
 use Rattle.std.proofs.Common.{◌≡◌, ℕ, ◌+◌, ◌-◌, ◌*◌, ◌<◌, ◌≤◌, cond, eqb, ◌⊎◌, List, length, get_or, Some, Ok, Err, Option, Result, sym, refl, ap, ◌∙◌, subst, ⊎_elim, arith}
 use Rattle.std.proofs.lemmas.Bool.Decides.{nat_tests}
 use Rattle.splits.specs.Inputs.{Inputs, first_of, IsInput, choice_entry}
-use Rattle.splits.specs.Records.{word, record_at, closing, of_fluent, of_choice, if_step, split_input, IsRecord}
+use Rattle.rules.specs.Words.{word_from as word}
+use Rattle.splits.specs.Records.{record_at, closing, of_fluent, of_choice, if_step, split_input, IsRecord}
 use Rattle.splits.specs.Walk.{then_on, input_at}
 use Rattle.play.specs.declared.part.Part.{Part}
 use Rattle.play.specs.declared.part.Part.TheVariants.{Base, Step}
@@ -14,7 +15,7 @@ use Rattle.splits.proofs.Counts.{choice_low}
 
 pub then_ok : {A B E : Type 0} (a : Result A E) (f : A → Result B E) (e : B) → then_on a f ≡ Ok e → (x : A) × (a ≡ Ok x) × (f x ≡ Ok e)
 then_ok (Ok x) f e h = (x, refl, h)
-then_ok (Err x) f e h = let z : ◌≡◌ {A = ℕ} 0 1 = cc in let n : ⊥ = omega arith in absurd n
+then_ok (Err x) f e h = absurd (cc)
 
 first_low : (p : Part) (f n : ℕ) → f ≤ n → first_of p f ≤ n
 first_low Base f n h = h
@@ -43,7 +44,7 @@ module _ (s : Inputs) (bs c : List ℕ) (i : ℕ) where
   from_close r w e = let p = close_says r e in subst Reads (sym p.0) (w, p.1, p.2)
 
   from_fluent : (p : Part) (r : Record) → s.part ≡ p → word bs (8 * i) ≡ 1 → Ok r ≡ if_step p (of_fluent s bs c i) (Err (Kind (8 * i))) → Reads r
-  from_fluent Base r q w e = let z : ◌≡◌ {A = ℕ} 0 1 = cc in let n : ⊥ = omega arith in absurd n
+  from_fluent Base r q w e = absurd (cc)
   from_fluent Step r q w e = let p = fluent_says r e in subst Reads (sym p.0) (w, refl, p.1, q, p.2, p.3, p.4)
 
   from_choice : (r : Record) → word bs (8 * i) ≡ 2 → Ok r ≡ of_choice s bs c i → Reads r
@@ -60,12 +61,9 @@ module _ (s : Inputs) (bs c : List ℕ) (i : ℕ) where
   pub told : (r : Record) (x : Option ℕ) → Ok r ≡ record_at s bs c i → x ≡ split_input s r → Ok x ≡ input_at s bs c i
   told r x e f = ap Ok f ∙ ap (λ a. then_on a (λ y. Ok (split_input s y))) e
 
-  pub fault_told : (x : RecordFault) → Err x ≡ record_at s bs c i → Err x ≡ input_at s bs c i
-  fault_told x e = ap (λ a. then_on a (λ y. Ok (split_input s y))) e
-
   -- a split is by an open input
   open_in : (r : Record) (k : ℕ) → Reads r → split_input s r ≡ Some k → IsInput s k × (get_or c k 0 ≡ 0)
-  open_in Close k p e = let z : ◌≡◌ {A = ℕ} 0 1 = cc in let n : ⊥ = omega arith in absurd n
+  open_in Close k p e = absurd (cc)
   open_in (Fluent f) k p e =
       let q : f - 1 ≡ k = cc in
       subst (λ y. IsInput s y × (get_or c y 0 ≡ 0)) q

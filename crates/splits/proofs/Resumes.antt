@@ -32,7 +32,7 @@ module _ (inp : Inputs) where
   abbrev pub Standing : ℕ → List ℕ → List ℕ → List Case → Type 0
   Standing records c₀ c [] = c ≡ c₀
   Standing records c₀ c (o ∷ os) =
-      (o.at < records) × (o.input < entries inp) × (o.branch < branch_count inp o.input) × (0 < get_or c o.input 0) × Standing records c₀ (set c o.input 0) os
+      (o.number < records) × (o.input < entries inp) × (o.branch < branch_count inp o.input) × (0 < get_or c o.input 0) × Standing records c₀ (set c o.input 0) os
 
   pub standing_count : (records : ℕ) (c₀ c : List ℕ) (s : List Case) → entries inp ≤ length c → Standing records c₀ c s → length s + open_of (entries inp) c ≡ open_of (entries inp) c₀
   standing_count records c₀ c [] l h = let e = ap (open_of (entries inp)) h in omega arith
@@ -54,7 +54,7 @@ module _ (closed : List ℕ → Bool) (inp : Inputs) (bs : List ℕ) where
   resume d c (o ∷ os) r =
       resume (suc d) (set c o.input 0) os
       (then_on (then_on r (branches closed inp bs (subtree closed inp bs d) (set c o.input 0) o.input (left inp o) (o.branch + 1)))
-      (ended closed inp bs o.at (is_last inp os)))
+      (ended closed inp bs o.number (is_last inp os)))
 
   -- at a record that is to be taken, and where the subtree of a record has just ended
   abbrev pub pending : ℕ → List ℕ → List Case → ℕ → Option ℕ → Result Unit WalkFault
@@ -102,15 +102,15 @@ module _ (closed : List ℕ → Bool) (inp : Inputs) (bs : List ℕ) where
 
     begins : (d : ℕ) (last : Bool) (e k : ℕ) → Ok (Some k) ≡ input_at inp bs c i → then_on (below d k) (ended closed inp bs i last) ≡ Ok e → Begins d last e
     unfolding below
-    begins zero last e k q h = let z : ◌≡◌ {A = ℕ} 0 1 = cc in let n : ⊥ = omega arith in absurd n
+    begins zero last e k q h = absurd (cc)
     begins (suc d) last e k q h = (k, q, h)
 
     starts : (d : ℕ) (last : Bool) (e : ℕ) (r : Result (Option ℕ) RecordFault) → r ≡ input_at inp bs c i → then_on (taken closed inp bs i c (below d) r) (ended closed inp bs i last) ≡ Ok e → Starts d last e
-    starts d last e (Err x) q h = let z : ◌≡◌ {A = ℕ} 0 1 = cc in let n : ⊥ = omega arith in absurd n
+    starts d last e (Err x) q h = absurd (cc)
     starts d last e (Ok None) q h =
         ⊎_elim
         (λ o. inl (q, o, sym (ap (λ b. then_on (cond b (Ok (i + 1)) (Err (NotClosed (8 * i)))) (ended closed inp bs i last)) o) ∙ h))
-        (λ o. let f = sym (ap (λ b. then_on (cond b (Ok (i + 1)) (Err (NotClosed (8 * i)))) (ended closed inp bs i last)) o) ∙ h in let z : ◌≡◌ {A = ℕ} 0 1 = cc in let n : ⊥ = omega arith in absurd n)
+        (λ o. let f = sym (ap (λ b. then_on (cond b (Ok (i + 1)) (Err (NotClosed (8 * i)))) (ended closed inp bs i last)) o) ∙ h in absurd (cc))
         (cases_Bool (closed c))
     starts d last e (Ok (Some k)) q h = inr (begins d last e k q h)
 
@@ -118,7 +118,7 @@ module _ (closed : List ℕ → Bool) (inp : Inputs) (bs : List ℕ) where
     sub_ok d last e h =
         ⊎_elim
         (λ l. (l, starts d last e _ refl (sym (sub_in d last l) ∙ h)))
-        (λ l. let f = sym (sub_past d last l) ∙ h in let z : ◌≡◌ {A = ℕ} 0 1 = cc in let n : ⊥ = omega arith in absurd n)
+        (λ l. let f = sym (sub_past d last l) ∙ h in absurd (cc))
         (cases_lt i (length bs / 8))
 
     module _ (d : ℕ) (s : List Case) where
@@ -142,7 +142,7 @@ module _ (closed : List ℕ → Bool) (inp : Inputs) (bs : List ℕ) where
     unset k v z = set-set c k v 0 ∙ (ap (set c k) (sym z) ∙ set-get_or c k 0)
 
     pub pending_split : (d : ℕ) (s : List Case) (k : ℕ) → i < length bs / 8 → Ok (Some k) ≡ input_at inp bs c i → 0 < branch_count inp k → get_or c k 0 ≡ 0
-        → pending (suc d) c s i None ≡ pending d (set c k 1) (record { at = i; input = k; branch = 0 } ∷ s) (i + 1) None
+        → pending (suc d) c s i None ≡ pending d (set c k 1) (record { input = k; branch = 0; number = i } ∷ s) (i + 1) None
     unfolding below
     pending_split d s k h q n z =
         let t : branch_count inp k ≡ suc (branch_count inp k - 1) = omega arith in
@@ -159,27 +159,23 @@ module _ (closed : List ℕ → Bool) (inp : Inputs) (bs : List ℕ) where
     right : (last : Bool) → is_last inp s ≡ last → Ok tt ≡ next_checked bs i e last → pending d c s e (Some i) ≡ resume d c s (Ok e)
     right last l q = ap (λ b. resume d c s (then_on (next_checked bs i e b) (λ _. Ok e))) l ∙ ap (λ r. resume d c s (then_on r (λ _. Ok e))) (sym q)
 
-  pub pending_root : (i e d : ℕ) (c : List ℕ) → Ok tt ≡ next_checked bs i e true → pending d c [] e (Some i) ≡ finished closed inp bs e
-  pending_root i e d c q = right i e d c [] true refl q
-
   module _ (i e d : ℕ) (c : List ℕ) (o : Case) (s : List Case) where
-    pub pending_pop : left inp o ≡ 0 → Ok tt ≡ next_checked bs i e true → pending d c (o ∷ s) e (Some i) ≡ pending (suc d) (set c o.input 0) s e (Some o.at)
+    pub pending_pop : left inp o ≡ 0 → Ok tt ≡ next_checked bs i e true → pending d c (o ∷ s) e (Some i) ≡ pending (suc d) (set c o.input 0) s e (Some o.number)
     pending_pop l q =
         right i e d c (o ∷ s) true (eq-eqb _ _ l) q
-        ∙ ap (λ m. resume (suc d) (set c o.input 0) s (then_on (branches closed inp bs (subtree closed inp bs d) (set c o.input 0) o.input m (o.branch + 1) e) (ended closed inp bs o.at (is_last inp s)))) l
+        ∙ ap (λ m. resume (suc d) (set c o.input 0) s (then_on (branches closed inp bs (subtree closed inp bs d) (set c o.input 0) o.input m (o.branch + 1) e) (ended closed inp bs o.number (is_last inp s)))) l
 
     pub pending_next : 0 < left inp o → Ok tt ≡ next_checked bs i e false
-        → pending d c (o ∷ s) e (Some i) ≡ pending d (set c o.input (o.branch + 2)) (record { at = o.at; input = o.input; branch = o.branch + 1 } ∷ s) e None
+        → pending d c (o ∷ s) e (Some i) ≡ pending d (set c o.input (o.branch + 1 + 1)) (record { input = o.input; branch = o.branch + 1; number = o.number } ∷ s) e None
     pending_next l q =
         let k = o.input in
         let b = o.branch in
         let p = set c k 0 in
         let m = branch_count inp k - (b + 1 + 1) in
         let t : left inp o ≡ suc m = omega arith in
-        let v : b + 1 + 1 ≡ b + 2 = omega arith in
-        let w : set p k (b + 1 + 1) ≡ set c k (b + 2) = set-set c k 0 (b + 1 + 1) ∙ ap (set c k) v in
-        let u : p ≡ set (set c k (b + 2)) k 0 = sym (set-set c k (b + 2) 0) in
+        let w : set p k (b + 1 + 1) ≡ set c k (b + 1 + 1) = set-set c k 0 (b + 1 + 1) in
+        let u : p ≡ set (set c k (b + 1 + 1)) k 0 = sym (set-set c k (b + 1 + 1) 0) in
         right i e d c (o ∷ s) false (ne_eqb _ _ (λ z. omega arith)) q
-        ∙ (ap (λ n. resume (suc d) p s (then_on (branches closed inp bs (subtree closed inp bs d) p k n (b + 1) e) (ended closed inp bs o.at (is_last inp s)))) t
-        ∙ (ap (λ y. resume (suc d) p s (then_on (then_on (subtree closed inp bs d e y (eqb m 0)) (branches closed inp bs (subtree closed inp bs d) p k m (b + 1 + 1))) (ended closed inp bs o.at (is_last inp s)))) w
-        ∙ ap (λ y. resume (suc d) y s (then_on (then_on (subtree closed inp bs d e (set c k (b + 2)) (eqb m 0)) (branches closed inp bs (subtree closed inp bs d) y k m (b + 1 + 1))) (ended closed inp bs o.at (is_last inp s)))) u))
+        ∙ (ap (λ n. resume (suc d) p s (then_on (branches closed inp bs (subtree closed inp bs d) p k n (b + 1) e) (ended closed inp bs o.number (is_last inp s)))) t
+        ∙ (ap (λ y. resume (suc d) p s (then_on (then_on (subtree closed inp bs d e y (eqb m 0)) (branches closed inp bs (subtree closed inp bs d) p k m (b + 1 + 1))) (ended closed inp bs o.number (is_last inp s)))) w
+        ∙ ap (λ y. resume (suc d) y s (then_on (then_on (subtree closed inp bs d e (set c k (b + 1 + 1)) (eqb m 0)) (branches closed inp bs (subtree closed inp bs d) y k m (b + 1 + 1))) (ended closed inp bs o.number (is_last inp s)))) u))

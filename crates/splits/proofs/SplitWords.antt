@@ -3,7 +3,8 @@ use Rattle.std.proofs.Common.{◌≡◌, ℕ, ◌+◌, ◌-◌, ◌*◌, ◌/◌
 use Rattle.std.proofs.lemmas.Nat.{div-add-mod', div-mul-add, mod-mul-add, div_below, mod_below}
 use Rattle.std.proofs.lemmas.Bool.{eq-eqb, ne_eqb, cond-true, cond-false, cases_lt, lt-ltb, le-ltb}
 use Rattle.splits.specs.Inputs.{Inputs, Proper, entries, first_of, IsInput, IsChoice, choice_entry}
-use Rattle.splits.specs.Records.{word, kind_of, number_of, level_of, record_at, of_fluent, if_step, split_input, split_record}
+use Rattle.rules.specs.Words.{word_from as word}
+use Rattle.splits.specs.Records.{kind_of, number_of, level_of, record_at, of_fluent, if_step, split_input, split_record}
 use Rattle.splits.specs.Walk.{input_at}
 use Rattle.play.specs.declared.part.Part.{Part}
 use Rattle.play.specs.declared.part.Part.TheVariants.{Base, Step}
@@ -22,7 +23,7 @@ abbrev pub level_word : Inputs → ℕ → ℕ
 level_word s k = level_of (split_record s k)
 
 is_step : (p : Part) (f k : ℕ) → first_of p f ≤ k → k < f → Step ≡ p
-is_step Base f k a b = let n : ⊥ = omega arith in absurd n
+is_step Base f k a b = absurd (omega arith)
 is_step Step f k a b = refl
 
 -- the input at an entry behind the fluents is a choice
@@ -79,7 +80,7 @@ module _ (s : Inputs) (bs c : List ℕ) (i k : ℕ) where
   Written = (word bs (8 * i) ≡ kind_word s k) × (word bs (8 * i + 2) ≡ number_word s k) × (word bs (8 * i + 4) ≡ level_word s k)
 
   written : (r : Record) → Reads s bs c i r → split_input s r ≡ Some k → Written
-  written Close p e = let z : ◌≡◌ {A = ℕ} 0 1 = cc in let n : ⊥ = omega arith in absurd n
+  written Close p e = absurd (cc)
   written (Fluent f) p e =
       let q : f - 1 ≡ k = cc in
       let b = lt-ltb k s.fluents (omega (arith, p.4, p.5)) in
@@ -106,8 +107,8 @@ module _ (s : Inputs) (bs c : List ℕ) (i : ℕ) where
 
   closing_words : (r : Record) → Reads s bs c i r → split_input s r ≡ None → Reads s bs c i Close
   closing_words Close p e = p
-  closing_words (Fluent f) p e = let z : ◌≡◌ {A = ℕ} 0 1 = cc in let n : ⊥ = omega arith in absurd n
-  closing_words (Choice r l) p e = let z : ◌≡◌ {A = ℕ} 0 1 = cc in let n : ⊥ = omega arith in absurd n
+  closing_words (Fluent f) p e = absurd (cc)
+  closing_words (Choice r l) p e = absurd (cc)
 
   pub says_close : Ok None ≡ input_at s bs c i → Reads s bs c i Close
   says_close e =

@@ -1,14 +1,8 @@
 -- The lent cases as a stack, the innermost split first.
-use Rattle.std.proofs.Common.{◌≡◌, ℕ, zero, suc, ◌+◌, ◌-◌, ◌<◌, ◌≤◌, ◌≢◌, List, [], ◌∷◌, length, get_or, set, refl, ap, ◌∙◌, arith}
+use Rattle.std.proofs.Common.{◌≡◌, ℕ, zero, suc, ◌+◌, ◌<◌, ◌≤◌, ◌≢◌, List, ◌∷◌, length, set, refl, ap, ◌∙◌, arith}
 use Rattle.std.proofs.lemmas.List.{get_or-set_same, get_or-set_other}
 use Rattle.splits.specs.declared.cases.Case.{Case}
-
-abbrev pub none : Case
-none = record { at = 0; input = 0; branch = 0 }
-
-abbrev pub stack : ℕ → List Case → List Case
-stack zero cs = []
-stack (suc d) cs = get_or cs d none ∷ stack d cs
+use Rattle.splits.specs.Stacks.{none, stack}
 
 pub length_stack : (d : ℕ) (cs : List Case) → length (stack d cs) ≡ d
 length_stack zero cs = refl
@@ -29,9 +23,3 @@ stack_push d cs o h =
     let r = stack_same d cs d o (omega arith) in
     let t : stack (d + 1) (set cs d o) ≡ stack (suc d) (set cs d o) = ap (λ n. stack n (set cs d o)) s in
     t ∙ (cc)
-
-pub stack_top : (d : ℕ) (cs : List Case) → 0 < d → stack d cs ≡ get_or cs (d - 1) none ∷ stack (d - 1) cs
-stack_top d cs h = let s : d ≡ suc (d - 1) = omega arith in ap (λ n. stack n cs) s
-
-pub stack_change : (d : ℕ) (cs : List Case) (o : Case) → 0 < d → d ≤ length cs → stack d (set cs (d - 1) o) ≡ o ∷ stack (d - 1) cs
-stack_change d cs o h l = let s : d ≡ d - 1 + 1 = omega arith in ap (λ n. stack n (set cs (d - 1) o)) s ∙ stack_push (d - 1) cs o (omega arith)

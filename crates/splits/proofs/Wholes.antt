@@ -4,7 +4,7 @@ use Rattle.std.proofs.lemmas.List.{length-set, append_assoc, append-nil, drop_al
 use Rattle.std.proofs.lemmas.Bool.{eq-eqb, ne_eqb, eqb-true, cond-true, cond-false, cases_Bool, cases_lt, lt-ltb, le-ltb}
 use Rattle.std.proofs.lemmas.Bool.Decides.{nat_tests}
 use Rattle.splits.specs.Inputs.{Inputs, Proper, entries, branch_count}
-use Rattle.splits.specs.Records.{word}
+use Rattle.rules.specs.Words.{word_from as word}
 use Rattle.splits.specs.Walk.{then_on, input_at, ended, branches, subtree, finished, sized, walked}
 use Rattle.splits.specs.Trees.{Tree, close, split, Trees, no_more, branch, Closes, CloseBranches, size, sizes, is_end, next, file, files, words, Whole, WalkTakesWhole}
 use Rattle.splits.specs.declared.faults.WalkFault.{WalkFault}
@@ -67,7 +67,7 @@ module _ (closed : List ℕ → Bool) (inp : Inputs) (bs : List ℕ) (proper : P
     trees_ok no_more d i c k zero b rest l a z o m h e =
         let p : i ≡ i + 0 = omega arith in
         (ap Ok p, subst (λ q. drop (4 * q) (words bs) ≡ rest) p e)
-    trees_ok no_more d i c k (suc more) b rest l a z o m h e = let n : ⊥ = omega arith in absurd n
+    trees_ok no_more d i c k (suc more) b rest l a z o m h e = absurd (omega arith)
     trees_ok (branch t ts) d i c k zero b rest l a z o m h e = let n : ⊥ = omega (arith, branches_low ts c k (b + 1) h.1) in absurd n
     trees_ok (branch t ts) d i c k (suc more) b rest l a z o m (g, h) e =
         let f = open_less n c k b a (omega arith) z in
@@ -85,7 +85,7 @@ module _ (closed : List ℕ → Bool) (inp : Inputs) (bs : List ℕ) (proper : P
   ended_ok i last x e h =
       ⊎_elim
       (λ q. (let f = sym (ap (λ b. then_on (cond {A = Result Unit WalkFault} b (Ok tt) (Err (Next (8 * i + 6)))) (λ _. Ok x)) q) ∙ h in cc, eqb-true _ _ q))
-      (λ q. let f = sym (ap (λ b. then_on (cond {A = Result Unit WalkFault} b (Ok tt) (Err (Next (8 * i + 6)))) (λ _. Ok x)) q) ∙ h in let z : ◌≡◌ {A = ℕ} 0 1 = cc in let n : ⊥ = omega arith in absurd n)
+      (λ q. let f = sym (ap (λ b. then_on (cond {A = Result Unit WalkFault} b (Ok tt) (Err (Next (8 * i + 6)))) (λ _. Ok x)) q) ∙ h in absurd (cc))
       (cases_Bool (eqb (word bs (8 * i + 6)) (next last x)))
 
   pub record Found (i : ℕ) (c : List ℕ) (last : Bool) (e : ℕ) : Type 0 where
@@ -159,7 +159,7 @@ module _ (closed : List ℕ → Bool) (inp : Inputs) (bs : List ℕ) (proper : P
   finished_ok : (e : ℕ) → finished closed inp bs e ≡ Ok tt → length bs / 8 ≤ e
   finished_ok e h =
       ⊎_elim
-      (λ l. let f = sym (cond-true _ _ _ (lt-ltb e (length bs / 8) l)) ∙ h in let z : ◌≡◌ {A = ℕ} 0 1 = cc in let n : ⊥ = omega arith in absurd n)
+      (λ l. let f = sym (cond-true _ _ _ (lt-ltb e (length bs / 8) l)) ∙ h in absurd (cc))
       (λ l. l)
       (cases_lt e (length bs / 8))
 
@@ -177,7 +177,7 @@ module _ (closed : List ℕ → Bool) (inp : Inputs) (bs : List ℕ) (proper : P
       let m = ap length r in
       let k = length_file inp f.tree 0 true in
       record { tree = f.tree; few = omega (arith, p.1, p.2); long = omega (arith, p.2); reads = r; closes = f.closes })
-      (λ s. let f = sym (cond-false _ _ _ s) ∙ h in let z : ◌≡◌ {A = ℕ} 0 1 = cc in let n : ⊥ = omega arith in absurd n)
+      (λ s. let f = sym (cond-false _ _ _ s) ∙ h in absurd (cc))
       (cases_Bool (sized closed inp bs))
 
   pub if_whole : (c : List ℕ) → n ≤ length c → Whole closed inp bs c → walked closed inp bs c ≡ Ok tt

@@ -1,5 +1,6 @@
 pub mod Inputs
 pub mod Shapes
+pub mod Stacks
 pub mod Records
 pub mod Faults
 pub mod Walk

@@ -1,5 +1,6 @@
 -- What the records of a split file say, each in its case.
 use Rattle.std.specs.Prelude.{ℕ, ◌+◌, ◌-◌, ◌*◌, ◌/◌, ◌%◌, ◌<◌, ◌≤◌, cond, List, [], ◌∷◌, length, Some, None, Ok, Err, Option, Result, ◌==◌, nat_lt, slice_index}
+use Rattle.rules.specs.Words.{word_from as word}
 use Rattle.splits.specs.Inputs.{Inputs, IsChoice, choice_entry}
 use Rattle.play.specs.declared.part.Part.{Part}
 use Rattle.play.specs.declared.part.Part.TheVariants.{Base, Step}
@@ -7,10 +8,6 @@ use Rattle.splits.specs.declared.records.Record.{Record}
 use Rattle.splits.specs.declared.records.Record.TheVariants.{Close, Fluent, Choice}
 use Rattle.splits.specs.declared.records.RecordFault.{RecordFault}
 use Rattle.splits.specs.declared.records.RecordFault.TheVariants.{Kind, Number, Level}
-
--- the word at a byte's place, high byte first
-abbrev pub word : List ℕ → ℕ → ℕ
-word bs at = slice_index bs at * 256 + slice_index bs (at + 1)
 
 -- The words of a record: kind, number, level, and its next.
 abbrev pub kind_of : Record → ℕ

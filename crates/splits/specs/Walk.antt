@@ -1,7 +1,8 @@
 -- The walk over a split file: the answer is the first fault in the order of the records, or none.
 use Rattle.std.specs.Prelude.{ℕ, zero, suc, ◌+◌, ◌*◌, ◌/◌, ◌%◌, Bool, true, cond, not, ◌&&◌, ◌||◌, List, length, Some, None, Ok, Err, Option, Result, ◌==◌, nat_lt, slice_set}
 use Rattle.splits.specs.Inputs.{Inputs, entries, branch_count}
-use Rattle.splits.specs.Records.{word, record_at, split_input}
+use Rattle.rules.specs.Words.{word_from as word}
+use Rattle.splits.specs.Records.{record_at, split_input}
 use Rattle.splits.specs.declared.records.RecordFault.{RecordFault}
 use Rattle.splits.specs.declared.faults.WalkFault.{WalkFault}
 use Rattle.splits.specs.declared.faults.WalkFault.TheVariants.{Length, PastEnd, OfRecord, NotClosed, Next, LeftOver}

@@ -9,28 +9,19 @@ use crate::drafted::{Drafted, TooSmall};
 use crate::judge::Judge;
 use crate::records::Record;
 use crate::shape::Shape;
-
-fn clear(area: &mut [u8])
-    ensures { area.new ≡ replicate (length area.old) 0 }
-{
-    for b in area.iter_mut() {
-        *b = 0;
-    }
-}
+use crate::stack::Stack;
 
 fn put_word(area: &mut [u8], at: usize, w: u16)
     requires { at + 1 < length area.old }
     ensures { area.new ≡ put area.old at w }
 {
-    area[at] = (w / 256) as u8;
-    area[at + 1] = (w % 256) as u8;
+    area[at..at + 2].copy_from_slice(&w.to_be_bytes());
 }
 
 fn room_of(area: &[u8]) -> usize
     ensures { result ≡ places area.now }
 {
-    let whole = area.len() / 8;
-    if whole < 65_535 { whole } else { 65_535 }
+    (area.len() / 8).min(65_535)
 }
 
 // The next of record `i`, whose subtree ended before record `end`. Where no record fits behind it, none is written, since no file will be.
@@ -71,57 +62,44 @@ pub fn draft<J: Judge>(
     ensures shown { is_ok result ≡ true → settings.new ≡ settings_after settings.old (drawn (J.closed judge.old) (inputs shape.entry) settings.old) }
     ensures same { J.closed judge.new ≡ J.closed judge.old }
 {
-    clear(area);
     let room = room_of(area);
+    area.fill(0);
     let first = shape.first_input();
-    let mut depth: usize = 0;
+    let end = shape.entries();
+    let mut splits = Stack::new(cases);
     let mut at: usize = 0;
     // the record whose subtree has just ended
     let mut over: Option<usize> = None;
     loop {
         match over {
             None => {
-                if judge.is_closed(settings) {
-                    if at >= room {
-                        clear(area);
-                        return Err(TooSmall {});
-                    }
-                    over = Some(at);
-                    at += 1;
-                } else if first + depth >= shape.entries() {
-                    clear(area);
+                let input = first + splits.len();
+                let closed = judge.is_closed(settings);
+                if !closed && input >= end {
+                    area.fill(0);
                     return Ok(Drafted::Play);
-                } else {
-                    if at >= room {
-                        clear(area);
-                        return Err(TooSmall {});
-                    }
-                    put_split(area, at, shape.split_record(first + depth));
-                    cases[depth] = Case {
-                        at,
-                        input: first + depth,
-                        branch: 0,
-                    };
-                    settings[first + depth] = 1;
-                    depth += 1;
-                    at += 1;
                 }
+                if at >= room {
+                    area.fill(0);
+                    return Err(TooSmall {});
+                }
+                if closed {
+                    over = Some(at);
+                } else {
+                    put_split(area, at, shape.split_record(input));
+                    splits.enter(Case::first(at, input), settings);
+                }
+                at += 1;
             }
             Some(i) => {
-                if depth == 0 {
+                let Some(top) = splits.pop() else {
                     return Ok(Drafted::File(at));
-                }
-                let top = cases[depth - 1];
-                if top.branch + 1 < shape.branches(top.input) {
+                };
+                let last = shape.is_last(top);
+                if !last {
                     link(area, i, at, room);
-                    cases[depth - 1].branch = top.branch + 1;
-                    settings[top.input] = top.branch + 2;
-                    over = None;
-                } else {
-                    settings[top.input] = 0;
-                    depth -= 1;
-                    over = Some(top.at);
                 }
+                over = splits.turn(top, last, settings);
             }
         }
     }

@@ -1,8 +1,9 @@
-ghost use Rattle.std.specs.Prelude.{◌≡◌, ◌<◌};
+ghost use Rattle.std.specs.Prelude.{◌≡◌, ◌+◌, ◌^◌, ◌<◌, nat_le};
 ghost use Rattle.splits.specs.Inputs.{entries, first_input, branch_count, IsChoice, choice_entry};
 ghost use Rattle.splits.specs.Records.{IsRecord, split_input, split_record};
 ghost use Rattle.splits.specs.Shapes.{inputs};
 
+use crate::cases::Case;
 use crate::records::Record;
 use crate::shape::Shape;
 use play::part::Part;
@@ -35,12 +36,20 @@ impl Shape<'_> {
         }
     }
 
+    // Whether a case's branch is the last one of its input.
+    pub(crate) fn is_last(self, case: Case) -> bool
+        requires { case.branch + 1 < 2 ^ 16 }
+        ensures { result ≡ nat_le (branch_count (inputs self.entry) case.input) (case.branch + 1) }
+    {
+        case.branch + 1 >= u16::from(self.branches(usize::from(case.input)))
+    }
+
     // The entry of a role's choice at a level.
     pub fn choice(self, role: u16, level: u16) -> usize
         requires { IsChoice (inputs self) role level }
         ensures { result ≡ choice_entry (inputs self.entry) role level }
     {
-        self.fluents + (level as usize * self.moves.len() + (role as usize - 1))
+        self.fluents + (usize::from(level) * self.moves.len() + (usize::from(role) - 1))
     }
 
     // The entry of the input that a record splits, if it splits one.
@@ -50,7 +59,7 @@ impl Shape<'_> {
     {
         match read {
             Record::Close => None,
-            Record::Fluent(number) => Some(number as usize - 1),
+            Record::Fluent(number) => Some(usize::from(number) - 1),
             Record::Choice(role, level) => Some(self.choice(role, level)),
         }
     }

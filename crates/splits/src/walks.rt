@@ -1,28 +1,41 @@
-ghost use Rattle.std.specs.Prelude.{◌≡◌, ◌+◌, ◌*◌, ◌≤◌, true, length, is_ok};
+ghost use Rattle.std.specs.Prelude.{◌≡◌, ◌+◌, ◌*◌, ◌/◌, ◌≤◌, true, length, is_ok, if◌then◌else◌, nat_lt};
 ghost use Rattle.splits.specs.Inputs.{entries};
 ghost use Rattle.splits.specs.Shapes.{inputs};
-ghost use Rattle.splits.specs.Walk.{walked, next_checked};
+ghost use Rattle.splits.specs.Walk.{walked, next_checked, then_on};
+ghost use Rattle.splits.specs.declared.faults.WalkFault.TheVariants.{LeftOver};
 
 use crate::cases::Case;
 use crate::faults::WalkFault;
 use crate::judge::Judge;
-use crate::records::read_record;
+use crate::place::Place;
 use crate::shape::Shape;
-use crate::words::word;
+use crate::situation::Situation;
+use crate::stack::Stack;
 
-// The subtree of record `i` has ended before record `end`, and its next is to say so.
-fn check_next(bytes: &[u8], i: usize, end: usize, last: bool) -> Result<(), WalkFault>
-    requires within { 8 * i + 8 ≤ length bytes.now }
-    requires end { 8 * end ≤ length bytes.now }
-    ensures { result ≡ next_checked bytes.now i end last }
+// The subtree of a record has ended before record `end`, and its next is to say so.
+fn check_next(place: Place, end: usize, last: bool) -> Result<(), WalkFault>
+    requires { 8 * end ≤ length place.bytes.now }
+    ensures { result ≡ next_checked place.entry.bytes.now place.entry.i end last }
 {
-    let next = word(bytes, 8 * i + 6) as usize;
+    let next = usize::from(place.next());
     let right = if last { 0 } else { end + 1 };
     if next == right {
         Ok(())
     } else {
-        Err(WalkFault::Next(8 * i + 6))
+        Err(WalkFault::Next(8 * place.i + 6))
     }
+}
+
+// The root's subtree has ended before record `end`: no record may be left over.
+fn check_root(place: Place, end: usize) -> Result<(), WalkFault>
+    requires { 8 * end ≤ length place.bytes.now }
+    ensures { result ≡ then_on (next_checked place.entry.bytes.now place.entry.i end true) (λ _. (if nat_lt end (length place.entry.bytes.now / 8) then Err (LeftOver (8 * end)) else Ok tt)) }
+{
+    check_next(place, end, true)?;
+    if end < place.bytes.len() / 8 {
+        return Err(WalkFault::LeftOver(8 * end));
+    }
+    Ok(())
 }
 
 // Walks a split file in the case that the settings are: the first fault in walk order, or none, and then the settings are as they were.
@@ -43,7 +56,7 @@ pub fn walk<J: Judge>(
         return Err(WalkFault::Length(bytes.len()));
     }
     let records = bytes.len() / 8;
-    let mut depth: usize = 0;
+    let mut splits = Stack::new(cases);
     let mut at: usize = 0;
     // the record whose subtree has just ended
     let mut over: Option<usize> = None;
@@ -53,44 +66,24 @@ pub fn walk<J: Judge>(
                 if at >= records {
                     return Err(WalkFault::PastEnd(bytes.len()));
                 }
-                let read = read_record(bytes, at, shape, settings)?;
-                if let Some(input) = shape.input(read) {
-                    cases[depth] = Case {
-                        at,
-                        input,
-                        branch: 0,
-                    };
-                    settings[input] = 1;
-                    depth += 1;
-                    at += 1;
-                } else {
-                    if !judge.is_closed(settings) {
-                        return Err(WalkFault::NotClosed(8 * at));
-                    }
+                let situation = Situation { shape, settings };
+                let split = situation.read_input(Place { bytes, i: at })?;
+                if let Some(input) = split {
+                    splits.enter(Case::first(at, input), settings);
+                } else if judge.is_closed(settings) {
                     over = Some(at);
-                    at += 1;
+                } else {
+                    return Err(WalkFault::NotClosed(8 * at));
                 }
+                at += 1;
             }
             Some(i) => {
-                if depth == 0 {
-                    check_next(bytes, i, at, true)?;
-                    if at < records {
-                        return Err(WalkFault::LeftOver(8 * at));
-                    }
-                    return Ok(());
-                }
-                let top = cases[depth - 1];
-                if top.branch + 1 < shape.branches(top.input) {
-                    check_next(bytes, i, at, false)?;
-                    cases[depth - 1].branch = top.branch + 1;
-                    settings[top.input] = top.branch + 2;
-                    over = None;
-                } else {
-                    check_next(bytes, i, at, true)?;
-                    settings[top.input] = 0;
-                    depth -= 1;
-                    over = Some(top.at);
-                }
+                let Some(top) = splits.pop() else {
+                    return check_root(Place { bytes, i }, at);
+                };
+                let last = shape.is_last(top);
+                check_next(Place { bytes, i }, at, last)?;
+                over = splits.turn(top, last, settings);
             }
         }
     }

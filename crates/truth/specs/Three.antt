@@ -14,6 +14,11 @@ means Yes w = only_yes
 means No w = only_no
 means Open w = both
 
+-- the case that allows just one answer
+abbrev pub answer : Bool → Three
+answer true = Yes
+answer false = No
+
 abbrev pub is_yes : Three → Bool
 is_yes Yes = true
 is_yes No = false

@@ -1,5 +1,6 @@
 ghost use Rattle.std.specs.Prelude.{◌≡◌, true, not, ◌&&◌, ◌||◌};
-ghost use Rattle.truth.specs.Forms.{only_yes, only_no, both, Meaning, Sound₁, Sound₂, Settles₁, Settles₂, Laws};
+ghost use Rattle.truth.specs.Forms.{only_yes, only_no, both, Meaning, Sound₁, Sound₂, Settles₁, Settles₂, Laws, SettlesByWorld};
+ghost use Rattle.truth.specs.Kleene.{neg as not_each, conj as and_each, disj as or_each};
 
 // A type of truth values. Its operations are known by what they do to meanings, so what a
 // result allows depends only on what its operands allow. Nothing is asked of the representation.
@@ -55,8 +56,11 @@ pub trait TruthForm: Copy {
 }
 
 // The laws of a form, as one record for proofs about code that is generic over it.
-pub fn laws_stand<T: TruthForm>() -> u8
+pub fn laws_stand<T: TruthForm>()
     ensures { Laws T.neg T.conj T.disj }
-{
-    0
-}
+{}
+
+// Kleene's operations, which the three-way and the wide form have, settle in each world by itself.
+pub fn settles_by_world<T: TruthForm>()
+    ensures { SettlesByWorld {World = T.World} not_each and_each or_each }
+{}

@@ -1,7 +1,7 @@
 ghost use Rattle.std.specs.Prelude.{◌≡◌, true};
-ghost use Rattle.truth.specs.Forms.{only_yes, only_no, both, SettlesByWorld};
+ghost use Rattle.truth.specs.Forms.{only_yes, only_no, both};
 ghost use Rattle.truth.specs.Kleene.{neg as not_each, conj as and_each, disj as or_each};
-ghost use Rattle.truth.specs.Three.{Only, here, means as three_means, is_no, three_not, three_and, three_or};
+ghost use Rattle.truth.specs.Three.{Only, here, means as three_means, answer as answer_of, is_no, three_not, three_and, three_or};
 ghost use Rattle.std.proofs.Common.{rules};
 
 use crate::form::TruthForm;
@@ -104,9 +104,11 @@ impl TruthForm for Three {
     }
 }
 
-// The three-way form settles in each world by itself.
-pub fn three_settles_by_world() -> u8
-    ensures { SettlesByWorld {World = Only} not_each and_each or_each }
-{
-    0
+// The answer to a question that is settled.
+impl From<bool> for Three {
+    ghost from_gives = { λ answer v. v ≡ answer_of answer };
+
+    fn from(answer: bool) -> Three {
+        if answer { Three::Yes } else { Three::No }
+    }
 }

@@ -1,5 +1,4 @@
 ghost use Rattle.std.specs.Prelude.{◌≡◌};
-ghost use Rattle.truth.specs.Forms.{SettlesByWorld};
 ghost use Rattle.truth.specs.Kleene.{flip, meet, join, neg as not_each, conj as and_each, disj as or_each};
 ghost use Rattle.truth.specs.Bit.{bit};
 ghost use Rattle.truth.specs.Wide.{Place, first, means as wide_means, by_mask, yes_allowed};
@@ -29,6 +28,7 @@ impl Wide {
     }
 }
 
+#[tactic(auto, using(crate::proofs::Bitwise::bit_ones, crate::proofs::Bitwise::bit_zero))]
 impl TruthForm for Wide {
     ghost World = { Place };
 
@@ -108,11 +108,4 @@ impl TruthForm for Wide {
     fn shut(self) -> bool {
         self.yes == 0
     }
-}
-
-// The wide form settles in each world by itself.
-pub fn wide_settles_by_world() -> u8
-    ensures { SettlesByWorld {World = Place} not_each and_each or_each }
-{
-    0
 }

@@ -26,6 +26,7 @@ use Rattle.parts.specs.Tables.{tree_of}
 use Rattle.parts.specs.Values.{part_value}
 use Rattle.parts.proofs.Lawful.{exact}
 use Rattle.parts.proofs.Stills.{records_are_still}
+use Rattle.parts.proofs.Tables.{all_at}
 use Rattle.docket.specs.Choices.{choice_of}
 use Rattle.docket.specs.Dockets.{trees_of}
 use Rattle.docket.specs.Inputs.{move_byte}
@@ -37,14 +38,11 @@ use Rattle.docket.proofs.Spelling.{spelled_start, spelled_move}
 use Rattle.docket.proofs.Standing.{all_fit, all_still}
 use Rattle.docket.proofs.marking.judge.Goals as goal
 
-pub evaluate_part-requires : goal.evaluate_part-requires
-evaluate_part-requires c =
+pub invariant_of-claim : goal.invariant_of-claim
+invariant_of-claim c =
     let D = c.args.docket.now in
-    record {
-      fits = c.requires.fits;
-      all = subst (λ (l : List Property). AllByRecursion (Fitting D.rules) l) (sym c.properties.ensures) (all_fit D);
-      room = omega arith;
-    }
+    let all = subst (λ (l : List Property). AllByRecursion (Fitting D.rules) l) (sym c.properties.ensures) (all_fit D) in
+    record { fits = c.requires.fits; all = λ i q h. all_at (Fitting D.rules) c.properties.result.now i q h all }
 
 few_levels : (part : Part) (n : ℕ) → n ≤ 3 → horizon_of part n ≤ 4
 few_levels Base n h = omega arith
@@ -62,11 +60,11 @@ returns c G reads w lt play S =
     let part = c.args.part in
     let p = tree_of c.args.property.now in
     let H = horizon_of part (degree p) in
-    let bs = c.args.plays.now in
-    let count = c.args.count in
+    let bs = c.args.plays.bytes.now in
+    let count = c.args.plays.count in
     let vs = c.put_plays.new.values in
     let n = length (atoms_of R) in
-    let d = c.evaluate_part.result in
+    let d = c.evaluate.result in
     let start = look (kleene_each Place) (map means (row n vs 0)) in
     let does = λ (j k : ℕ). look (kleene_each Place) (map means (row n vs j)) (does_at R k) in
     let e : c.from-horizon.result ≡ H = c.from-horizon.ensures ∙ c.horizon.ensures ∙ ap (horizon_of part) c.degree.ensures.tree in
@@ -77,7 +75,7 @@ returns c G reads w lt play S =
     let moves : (j k : ℕ) → j < H → k < choices R → (u : Place) → does j k u ≡ just (ltb u.at count && byte_is bs (move_byte R j (choice_of (moves_of R) k).role) (choice_of (moves_of R) k).number u.at) = λ j k h l u.
     ap (λ (m : Meaning Place). m u) (look_row vs n j (does_at R k) d (does_small R k l) (omega (arith, few_atoms R)) ∙ c.put_plays.ensures.moves j k d (omega arith) l) in
     let here : ltb w.at count ≡ true = lt-ltb w.at count lt in
-    ap (λ (m : Meaning Place). m w) (c.evaluate_part.ensures.value ∙ ap (λ l. part_value (kleene_each Place) R (at_level (kleene_each Place) R start does) part (map tree_of l) p) c.properties.ensures)
+    ap (λ (m : Meaning Place). m w) (c.evaluate.ensures.value ∙ ap (λ l. part_value (kleene_each Place) R (at_level (kleene_each Place) R start does) part (map tree_of l) p) c.properties.ensures)
     ∙ exact kleene_laws R G reads w start does part (trees_of D) p (all_still D) (records_are_still R (records_of c.args.property.now) c.requires.fits) play S.levels (
       (λ f h. just_allows (start f w) (holds_in play.start f) (starts f h w ∙ ap (λ b. just (b && byte_is bs f 1 w.at)) here ∙ ap just (spelled_start R H bs w.at play S few f h))),
       (λ j k h l. just_allows (does j k w) (made play.joints j k)

@@ -1,4 +1,4 @@
-use Rattle.std.proofs.Common.{refl, lit≤}
+use Rattle.std.proofs.Common.{rules, refl, arith}
 use Rattle.std.proofs.lemmas.Result.{err_from_is_err_and}
 use Rattle.rules.proofs.Takings.{taken_passed}
 use Rattle.docket.proofs.opening.open.Goals as goal
@@ -7,15 +7,3 @@ pub returns-in_err-strata : goal.returns-in_err-strata
 returns-in_err-strata c =
     let p = err_from_is_err_and c.from_residual-in_err-strata.result c.from_residual-in_err-strata.ensures.1 in
     rw (p.1, p.2) (record { opens = (taken_passed _ c.in_ok-rules.ensures.0, c.in_ok-rules.ensures.0); empty = tt })
-
-pub invariant_of-result : goal.invariant_of-result
-invariant_of-result c =
-    record {
-      sorted = c.in_ok-strata.ensures;
-      places = c.empty_places-properties.ensures;
-      pages = refl;
-      few = lit≤ tt;
-      said = ∣ refl ∣₁;
-      fitting = ∣ tt ∣₁;
-      holding = ∣ tt ∣₁;
-    }

@@ -18,7 +18,7 @@ loop-level-preserved c =
     let n = c.loop-level.level in
     let ys = c.put_level.new.values in (
       (λ j k d h l. elim (cases_eq j n) [
-        | inl e ↦ ap (λ i. means (get_or ys (place i (does_at R k)) d)) e ∙ c.put_level.ensures.moves k d l ∙ ap (λ i. doing R c.args.plays.now c.args.count i k) (sym e)
+        | inl e ↦ ap (λ i. means (get_or ys (place i (does_at R k)) d)) e ∙ c.put_level.ensures.moves k d l ∙ ap (λ i. doing R c.args.plays.bytes.now c.args.plays.count i k) (sym e)
         | inr e ↦
             ap means (c.put_level.ensures.kept (place j (does_at R k)) d (λ i m. rows_apart j n (does_at R k) (does_at R i) (omega (arith, few_atoms R, does_small R k l)) (omega (arith, few_atoms R, does_small R i m)) e))
             ∙ c.loop-level.invariant.0 j k d (omega arith) l

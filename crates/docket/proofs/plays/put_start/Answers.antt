@@ -1,4 +1,5 @@
-use Rattle.std.proofs.Common.{◌<◌, ◌&&◌, ltb, length, ap, ◌∙◌, arith}
+use Rattle.std.proofs.Common.{◌≡◌, ◌&&◌, ltb, drop, ap, ◌∙◌, length-take, arith}
+use Rattle.std.proofs.lemmas.List.{get_or_append_left}
 use Rattle.truth.specs.Wide.{means}
 use Rattle.docket.specs.Inputs.{starting}
 use Rattle.docket.specs.Plays.{byte_is}
@@ -6,23 +7,21 @@ use Rattle.docket.proofs.Inputs.{few_fluents, mask_means, put_starts, put_goes}
 use Rattle.docket.proofs.plays.put_start.Goals as goal
 
 pub loop-f-init : goal.loop-f-init
-loop-f-init c = put_starts means (starting c.args.plays.now c.args.count) (λ f. f) c.args.values.now
+loop-f-init c = put_starts means (starting c.args.plays.bytes.now c.args.plays.count) (λ f. f) _
 
 pub loop-f-preserved : goal.loop-f-preserved
 loop-f-preserved c =
-    let bs = c.args.plays.now in
-    let n = c.args.count in
+    let bs = c.args.plays.bytes.now in
+    let n = c.args.plays.count in
     let f = c.loop-f.f in
-    let F = few_fluents c.args.rules.now in
-    let e = ap (λ y. y.fluents) c.layout.ensures in
-    let h : f < length c.loop-f.values = omega (arith, c.loop-f.auto.values) in
-    put_goes means (starting bs n) (λ f. f) c.args.values.now f c.loop-f.values c.settled.result h (λ g l q. omega arith)
+    put_goes means (starting bs n) (λ f. f) _ f c.loop-f.value-items c.settled.result (omega (arith, c.loop-f.auto.value-items)) (λ g l q. omega arith)
     (c.settled.ensures.exact ∙ mask_means c.plays_with.result (λ k. ltb k n && byte_is bs f 1 k) c.plays_with.ensures) c.loop-f.invariant
 
-pub returns : goal.returns
-returns c =
-    let e = ap (λ y. y.fluents) c.layout.ensures in
-    record {
-      start = λ f d l. c.loop-f.invariant.done f d (omega arith);
-      kept = λ i d l. c.loop-f.invariant.kept i d (λ f k q. omega arith);
-    }
+pub returns-clause-start : goal.returns-clause-start
+returns-clause-start c =
+    let vs = c.args.values.now in
+    let n = c.from-fluents.result in
+    let F : n ≡ _ = c.from-fluents.ensures ∙ ap (λ y. y.fluents) c.layout.ensures in
+    λ f d l.
+    ap means (get_or_append_left c.loop-f.value-items (drop n vs) d f (omega (arith, length-take n vs, c.loop-f.auto.value-items, few_fluents c.args.rules.now, c.requires.room, F)))
+    ∙ c.loop-f.invariant.done f d (omega (arith, length-take n vs, c.loop-f.auto.value-items, c.loop-f.auto.f-end, few_fluents c.args.rules.now, c.requires.room, F))

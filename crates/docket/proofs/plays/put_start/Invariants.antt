@@ -4,4 +4,4 @@ use Rattle.docket.proofs.Inputs.{Put}
 use Rattle.docket.proofs.plays.put_start.Given as goal
 
 abbrev pub invariant-loop-f : goal.invariant-loop-f
-invariant-loop-f l = Put means (starting l.plays l.count) (λ f. f) l.initial.values l.f l.values
+invariant-loop-f l = Put means (starting l.plays.bytes.now l.plays.count) (λ f. f) l.initial.value-items l.f l.value-items

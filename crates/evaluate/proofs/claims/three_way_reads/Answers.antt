@@ -1,6 +1,5 @@
-use Rattle.truth.specs.Three.{Only}
 use Rattle.evaluate.proofs.Standard.{three_way}
 use Rattle.evaluate.proofs.claims.three_way_reads.Goals as goal
 
 pub returns : goal.returns
-returns c = three_way Only
+returns g c = three_way g.T.TruthForm.World

@@ -1,6 +1,7 @@
-use Rattle.std.proofs.Common.{◌≡◌, drop}
+use Rattle.std.proofs.Common.{◌≡◌, length, drop}
 use Rattle.evaluate.specs.Showing.{chosen}
 use Rattle.evaluate.proofs.models.chosen.Given as goal
 
-abbrev pub invariant-loop-role : goal.invariant-loop-role
-invariant-loop-role l = chosen (drop l.role l.moves) (drop l.role l.joint) l.left ≡ chosen l.moves l.joint l.k
+abbrev pub invariant-loop-count : goal.invariant-loop-count
+invariant-loop-count l =
+    chosen (drop (length l.yielded) l.moves) (drop (length l.yielded) l.joint) l.left ≡ chosen l.moves l.joint l.k

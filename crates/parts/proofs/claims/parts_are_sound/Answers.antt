@@ -1,10 +1,5 @@
-use Rattle.truth.specs.Forms.{Laws}
 use Rattle.parts.proofs.Lawful.{sound}
 use Rattle.parts.proofs.claims.parts_are_sound.Goals as goal
 
 pub returns : goal.returns
-returns g c =
-    let t = g.T.TruthForm in
-    let m = g.met.T.TruthForm in
-    let laws : Laws t.neg t.conj t.disj = record { neg_sound = m.neg_sound; conj_sound = m.conj_sound; disj_sound = m.disj_sound; neg_settled = m.neg_settled; conj_settled = m.conj_settled; disj_settled = m.disj_settled } in
-    sound laws
+returns g c = sound c.laws_stand.ensures

@@ -3,10 +3,10 @@ use Rattle.rules.proofs.Firsts.{verdict_ok}
 use Rattle.rules.proofs.Passed.{passed_linked}
 use Rattle.rules.proofs.checks.check.Goals as goal
 
-pub check_conditions-requires : goal.check_conditions-requires
-check_conditions-requires c = record {
+pub invariant_of-check_conditions : goal.invariant_of-check_conditions
+invariant_of-check_conditions c = record {
   linked = passed_linked _ _
-      (verdict_ok _ tt _ (sym c.check_atoms.ensures ∙ c.in_ok-check_atoms.was))
-      (verdict_ok _ tt _ (sym c.check_rules.ensures ∙ c.in_ok-check_rules.was))
-      (verdict_ok _ tt _ (sym c.check_literals.ensures ∙ c.in_ok-check_literals.was));
+      (verdict_ok _ tt _ (sym c.check_all.ensures ∙ c.in_ok-check_all.was))
+      (verdict_ok _ tt _ (sym c.check_all-2.ensures ∙ c.in_ok-check_all-2.was))
+      (verdict_ok _ tt _ (sym c.check_all-3.ensures ∙ c.in_ok-check_all-3.was));
 }

@@ -1,43 +1,43 @@
-use Rattle.std.proofs.Common.{◌≡◌, ◌+◌, ◌-◌, ◌++◌, map, length, replicate, Some, None, Ok, sym, ap, ◌∙◌, arith}
-use Rattle.std.specs.List.{range_with_len}
+use Rattle.std.proofs.Common.{◌+◌, Ok, sym, ap, ◌∙◌, arith}
 use Rattle.std.proofs.lemmas.Result.{err_from_is_err_and}
-use Rattle.rules.specs.First.{first, verdict}
-use Rattle.rules.proofs.Firsts.{verdict_value, loop_stops, loop_goes, first_end}
-use Rattle.property.specs.First.{record_fault, wrong_word}
-use Rattle.property.specs.Typed.{record_in, records_in, unused}
+use Rattle.arrayvec.specs.ArrayVec.{ArrayVec}
+use Rattle.rules.specs.First.{verdict}
+use Rattle.rules.proofs.Firsts.{loop_stops}
+use Rattle.property.specs.declared.records.Record.{Record}
+use Rattle.property.specs.Typed.{record_in, records_in}
 use Rattle.property.specs.Words.{words_in, count_in}
-use Rattle.property.proofs.Fills.{fill_next, records_counted}
+use Rattle.property.proofs.Collected.{fault_of, collected_length, collected_more, collected_all}
+use Rattle.property.proofs.text.Text.records.Goals.{else-loop-number-test, then-loop-number-test+in_ok-record+else-number-number-end}
 use Rattle.property.proofs.text.Text.records.Goals as goal
 
-pub returns-in_err-records : goal.returns-in_err-records
-returns-in_err-records c =
+pub returns-in_err-record : goal.returns-in_err-record
+returns-in_err-record c =
     let p = err_from_is_err_and c.from_residual.result c.from_residual.ensures.1 in
     let bs = c.args.self.bytes.now in
     let R = c.args.rules.now in
-    let n = records_counted (length bs) c.args.self.count c.args.self.sized in
-    let f = record_fault R c.args.self.count (words_in bs) in
-    let found = loop_stops f (c.loop-i.i + 1) (c.args.self.count + 1) _ c.loop-i.invariant.1 (omega arith) _ (record_in (words_in bs) (c.loop-i.i + 1)) _ c.record.ensures c.in_err-records.was in
-    let whole : wrong_word R bs ≡ Some c.in_err-records.field-0.0 = ap (λ m. first (record_fault R m (words_in bs)) (range_with_len 1 m)) n ∙ found in
-    rw (p.1, p.2) (ap (λ o. verdict o (records_in bs ++ replicate (64 - count_in bs) unused)) (sym whole))
+    let k = c.loop-number.number in
+    let found = loop_stops (fault_of R bs) k (count_in bs + 1) _ c.loop-number.invariant.1 (omega arith) _ (record_in (words_in bs) k) _ c.record.ensures c.in_err-record.was in
+    rw (p.1, p.2) (ap (λ o. verdict o (records_in bs)) (sym found))
 
-pub loop-i-preserved : goal.loop-i-preserved
-loop-i-preserved c =
-    let bs = c.args.self.bytes.now in
-    let i = c.loop-i.i in
-    let f = record_fault c.args.rules.now c.args.self.count (words_in bs) in
-    let v = verdict_value (f (i + 1)) (record_in (words_in bs) (i + 1)) _ (sym c.record.ensures ∙ c.in_ok-records.was) in (
-      fill_next (record_in (words_in bs)) unused 64 i c.loop-i.records c.from.result _ c.loop-i.invariant.0 (omega arith) c.from.ensures (sym v),
-      loop_goes f (i + 1) (c.args.self.count + 1) _ c.loop-i.invariant.1 (omega arith) _ (record_in (words_in bs) (i + 1)) _ c.record.ensures c.in_ok-records.was,
-    )
+pub push-requires : goal.push-requires
+push-requires c = (omega arith, omega (arith, collected_length c.args.rules.now c.args.self.bytes.now c.loop-number.number c.loop-number.records.items c.loop-number.invariant))
+
+pub loop-number-preserved : goal.loop-number-preserved
+loop-number-preserved c =
+    collected_more c.args.rules.now c.args.self.bytes.now c.loop-number.number c.loop-number.records.items c.push.new.self.items
+    c.record.result c.in_ok-record.field-0 (omega arith) (omega arith) c.loop-number.invariant c.record.ensures c.in_ok-record.was c.push.ensures.items
 
 pub returns : goal.returns
 returns c =
     let bs = c.args.self.bytes.now in
     let R = c.args.rules.now in
-    let f = record_fault R c.args.self.count (words_in bs) in
-    let n = records_counted (length bs) c.args.self.count c.args.self.sized in
-    let all : c.loop-i.i ≡ count_in bs = omega arith in
-    let none : wrong_word R bs ≡ None =
-    ap (λ m. first (record_fault R m (words_in bs)) (range_with_len 1 m)) n ∙ sym c.loop-i.invariant.1 ∙ first_end f (c.loop-i.i + 1) (c.args.self.count + 1) (omega arith) in
-    ap Ok (c.loop-i.invariant.0 ∙ ap (λ m. map (record_in (words_in bs)) (range_with_len 1 m) ++ replicate (64 - m) unused) all)
-    ∙ ap (λ o. verdict o (records_in bs ++ replicate (64 - count_in bs) unused)) (sym none)
+    let k = c.loop-number.number in
+    elim c.loop-number-test.branch [
+      | else-loop-number-test w ↦
+          ap (λ (v : ArrayVec Record). Ok v.items) w.records-is ∙ collected_all R bs k c.loop-number.records.items (omega (arith, w.loop-number-test.false)) c.loop-number.invariant
+      | then-loop-number-test+in_ok-record+else-number-number-end w ↦
+          ap (λ (v : ArrayVec Record). Ok v.items) w.records-is
+          ∙ collected_all R bs (k + 1) w.push.new.self.items (omega arith)
+          (collected_more R bs k c.loop-number.records.items w.push.new.self.items w.record.result w.in_ok-record.field-0 (omega arith) (omega arith)
+          c.loop-number.invariant w.record.ensures w.in_ok-record.was w.push.ensures.items)
+    ]
