@@ -1,6 +1,5 @@
 // Evaluation: rule files of growing size, at both truth forms and over one level or five.
 use crate::timing::Timing;
-use crate::words::add;
 use evaluate::grid::Grid;
 use evaluate::indexed::Indexed;
 use evaluate::strata::Strata;
@@ -11,6 +10,7 @@ use std::io;
 use truth::form::TruthForm;
 use truth::three::Three;
 use truth::wide::Wide;
+use worked::words::add;
 
 const VALUES: usize = 3392;
 

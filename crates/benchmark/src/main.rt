@@ -4,7 +4,6 @@
 mod evaluation;
 mod opening;
 mod timing;
-mod words;
 
 use std::io;
 

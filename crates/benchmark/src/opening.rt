@@ -1,10 +1,10 @@
 // Opening: the largest rule file, with every chain shared.
 use crate::timing::Timing;
-use crate::words::add;
 use rules::checks::check;
 use rules::opening::open;
 use std::alloc::{AllocError, Global};
 use std::io;
+use worked::words::add;
 
 const ATOMS: u16 = 512;
 

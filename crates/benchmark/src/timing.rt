@@ -18,7 +18,7 @@ impl Timing {
         requires some { 0 < turns }
     {
         let start = Instant::now(rt)?;
-        // A `filter` of the turns by the step leaves it open that the step may be called at each.
+        // With a `filter` of the turns the check does not find that the step may be called.
         let mut passed = 0u16;
         for _ in 0..turns {
             if step() {

@@ -1,9 +1,8 @@
 -- Masks made bit by bit, from the highest down.
-use Rattle.std.proofs.Common.{◌≡◌, ℕ, zero, suc, ◌+◌, ◌-◌, ◌*◌, ◌/◌, ◌%◌, ◌^◌, ◌<◌, ◌≤◌, Bool, true, false, ◌&&◌, eqb, ltb, sym, refl, subst, ap, ◌∙◌, div-one, arith, pow_mono}
+use Rattle.std.proofs.Common.{◌≡◌, ℕ, zero, suc, ◌+◌, ◌-◌, ◌*◌, ◌/◌, ◌%◌, ◌^◌, ◌<◌, Bool, true, false, ◌&&◌, eqb, ltb, sym, refl, subst, ap, ◌∙◌, div-one, arith}
 use Rattle.std.proofs.lemmas.Nat.{pow-add, shr-shr}
-use Rattle.std.proofs.lemmas.Bool.{lt-ltb, le-ltb}
+use Rattle.std.proofs.lemmas.Bool.{lt-ltb}
 use Rattle.truth.specs.Bit.{bit}
-use Rattle.truth.proofs.Bitwise.{bit_zero}
 use Rattle.docket.specs.Plays.{flag}
 
 abbrev odd : ℕ → Bool
@@ -34,9 +33,6 @@ high_bit m b k =
 abbrev pub Small : (count n mask : ℕ) → Type 0
 Small count n mask = mask < 2 ^ (count - n)
 
-pub small_starts : (count : ℕ) → Small count count 0
-small_starts count = let e : count - count ≡ 0 = omega arith in rw e (omega arith)
-
 pub small_goes : (count n mask : ℕ) (b : Bool) (new before : ℕ) → n < count → before ≡ n + 1 → new ≡ 2 * mask + flag b → Small count before mask → Small count n new
 small_goes count n mask b new before h e is o =
     let d : count - n ≡ 1 + (count - (n + 1)) = omega arith in
@@ -45,15 +41,9 @@ small_goes count n mask b new before h e is o =
     let t : mask < 2 ^ (count - (n + 1)) = subst (λ (j : ℕ). mask < 2 ^ (count - j)) e o in
     rw is (rw d (omega arith))
 
-pub small_fits : (count n mask : ℕ) → 0 < n → count ≤ 64 → Small count n mask → mask < 2 ^ 63
-small_fits count n mask h few s = let q = pow_mono {i = count - n} {j = 63} (omega arith) in omega arith
-
 -- the bits from n on are in place, of count
 abbrev pub Masked : (p : ℕ → Bool) (count n mask : ℕ) → Type 0
 Masked p count n mask = (k : ℕ) → bit mask k ≡ ltb (k + n) count && p (k + n)
-
-pub masked_starts : (p : ℕ → Bool) (count : ℕ) → Masked p count count 0
-masked_starts p count = λ k. bit_zero k ∙ sym (ap (λ t. t && p (k + count)) (le-ltb (k + count) count (omega arith)))
 
 pub masked_goes : (p : ℕ → Bool) (count n mask : ℕ) → n < count → Masked p count (n + 1) mask → Masked p count n (2 * mask + flag (p n))
 masked_goes p count n mask h old = goes

@@ -1,17 +1,9 @@
 -- The moves of all roles, counted by role and then by move.
-use Rattle.std.proofs.Common.{◌≡◌, ℕ, suc, ◌+◌, ◌-◌, ◌<◌, ◌≤◌, cond, eqb, ltb, List, [], ◌∷◌, length, get_or, drop, sym, ap, ◌∙◌, inl, inr, arith}
-use Rattle.std.proofs.lemmas.List.{drop_more, drop_all}
+use Rattle.std.proofs.Common.{◌≡◌, ℕ, suc, ◌+◌, ◌-◌, ◌<◌, eqb, List, [], ◌∷◌, length, get_or, sym, ap, ◌∙◌, inl, inr, arith}
 use Rattle.std.proofs.lemmas.Bool.{cases_eq, cases_lt, lt-ltb, le-ltb, eq-eqb, ne_eqb}
 use Rattle.rules.specs.Tables.{total}
 use Rattle.evaluate.specs.Showing.{chosen}
 use Rattle.docket.specs.Choices.{choice_from}
-
-pub choice_step : (ns : List ℕ) (i c : ℕ) → i < length ns
-    → choice_from i (drop i ns) c ≡ cond (ltb c (get_or ns i 0)) (record { role = i; number = c + 1 }) (choice_from (i + 1) (drop (i + 1) ns) (c - get_or ns i 0))
-choice_step ns i c h = ap (λ l. choice_from i l c) (drop_more ns i 0 h)
-
-pub choice_end : (ns : List ℕ) (i c : ℕ) → length ns ≤ i → choice_from i (drop i ns) c ≡ record { role = 0; number = 0 }
-choice_end ns i c h = ap (λ l. choice_from i l c) (drop_all i ns h)
 
 pub role_within : (ns : List ℕ) (r c : ℕ) → c < total ns → (choice_from r ns c).role < r + length ns
 role_within [] r c h = absurd (omega arith)

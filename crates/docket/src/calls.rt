@@ -13,6 +13,8 @@ use splits::cases::Case;
 use truth::wide::Wide;
 
 // Tries up to 64 plays against a part of a property on this docket. Whatever the answer, the lent memories are cleared.
+// Each memory is a parameter of its own: a struct around slices that are lent for writing would need a clause in each contract that it
+// holds the same slices still.
 pub fn trial(
     docket: &Docket,
     part: Part,

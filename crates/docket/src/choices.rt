@@ -8,7 +8,8 @@ pub struct Choice {
     pub number: u16,
 }
 
-// Move `c` of all, counted from 0 by role and then by move, where each role has so many moves.
+// Move `c` of all, counted from 0 by role and then by move, where each role has so many moves. Behind the last move it is no role's
+// move: an `Option` would put a case into callers that is never met.
 pub fn choice_at(moves: &[u16], c: usize) -> Choice
     ensures { result ≡ choice_of moves.now c }
 {

@@ -4,7 +4,7 @@ ghost use Rattle.docket.specs.Cleared.{AllNo, Blank};
 use splits::cases::Case;
 use truth::form::TruthForm;
 
-// Puts every value back to no.
+// Puts every value back to no. The library's `fill` asks for a clone that cannot fail, which a truth form does not promise.
 pub fn clear_values<T: TruthForm>(values: &mut [T])
     ensures no { AllNo T.means values.new }
     ensures len { length values.new ≡ length values.old }

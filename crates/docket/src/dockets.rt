@@ -20,6 +20,7 @@ pub const PLACES: usize = 16;
 pub struct Docket {
     pub(crate) rules: Rules,
     pub(crate) strata: Strata,
+    // two vectors, since a step is lent the properties as one slice
     pub(crate) properties: ArrayVec<Property, 16>,
     pub(crate) texts: ArrayVec<ArrayVec<u8, 384>, 16>,
     ghost sorted: { SortedBy rules strata },

@@ -25,6 +25,7 @@ impl TrialFault {
     }
 }
 
+// Conversions are written out, since clauses name the error that a `?` makes.
 impl From<Shortage> for TrialFault {
     ghost from_gives = { λ e r. r ≡ Memory e };
 

@@ -10,7 +10,7 @@
 #![tactic(auto)]
 
 pub mod calls;
-mod choices;
+pub mod choices;
 pub mod claims;
 pub mod clearing;
 pub mod dockets;

@@ -16,7 +16,7 @@ ghost use Rattle.docket.specs.Trials.{FirstMarked, MarksPlays};
 
 use crate::dockets::Docket;
 use crate::masks::all_plays;
-use crate::plays::put_plays;
+use crate::plays::Inputs;
 use evaluate::grid::Grid;
 use parts::part_value::Claim;
 use play::part::Part;
@@ -25,7 +25,7 @@ use property::properties::Property;
 use truth::form::TruthForm;
 use truth::wide::Wide;
 
-// Whether each play breaks the part: in world k, play k.
+// Whether each play breaks the part: in world k, play k. The docket, the part and the property make a claim only once the plays are put.
 fn judge<'a>(
     docket: &'a Docket,
     part: Part,
@@ -38,7 +38,11 @@ fn judge<'a>(
     ensures { (G : Game Position (Joint (moves_of docket.now.rules))) → ReadsStandardModel docket.now.rules G → (w : Place) → w.at < plays.entry.count → (play : Play Position (Joint (moves_of docket.now.rules))) → Spells docket.now.rules (horizon_of part (degree_of (tree_of property.now))) plays.entry.bytes.now w.at play → wide_means result w ≡ just (marked (by_number G) part (trees_of docket.now) (tree_of property.now) play) }
 {
     let horizon = usize::from(part.horizon(property.degree()));
-    put_plays(&docket.rules, plays, horizon, values);
+    let inputs = Inputs {
+        rules: &docket.rules,
+        plays,
+    };
+    inputs.put(horizon, values);
     let claim = Claim {
         rules: &docket.rules,
         part,

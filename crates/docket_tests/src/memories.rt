@@ -1,11 +1,13 @@
 // Lent memories one short, exact and longer; they are cleared whatever comes.
-use crate::samples::{SECOND, add_play, bytes_of, opened};
+use crate::samples::{add_play, opened};
 use docket::calls::trial;
 use play::part::Part;
 use splits::cases::Case;
 use std::test::Fail;
 use truth::form::TruthForm;
 use truth::wide::Wide;
+use worked::files::SECOND;
+use worked::words::bytes_of;
 
 // Settings, values and case records; then the number and place of the fault, if there is one.
 const SIZES: [(usize, usize, usize, Option<(u8, usize)>); 6] = [

@@ -1,7 +1,8 @@
 // Which plays break which parts.
-use crate::samples::{COUNTDOWN, SECOND, STUCK, add_play, opened, tried};
+use crate::samples::{COUNTDOWN, STUCK, add_play, opened, tried};
 use play::part::Part;
 use std::test::Fail;
+use worked::files::SECOND;
 
 // Not both live and old: a late tick from live breaks the step, a fresh one does not.
 #[test]

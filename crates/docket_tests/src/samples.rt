@@ -8,12 +8,7 @@ use std::alloc::Global;
 use std::test::Fail;
 use truth::form::TruthForm;
 use truth::wide::Wide;
-
-// Live and old, fresh and late; a price that is live and not old stays live.
-pub const SECOND: [u16; 56] = [
-    1, 2, 1, 9, 5, 4, 2, 0, 2, 0, 0, 0, 0, 1, 1, 1, 1, 1, 2, 0, 1, 0, 0, 1, 0, 1, 0, 3, 1, 0, 4, 1,
-    0, 0, 5, 1, 0, 2, 0, 0, 0, 0, 0, 3, 5, 0, 0, 6, 0, 0, 1, 0, 4, 2, 1, 0,
-];
+use worked::words::bytes_of;
 
 // Three fluents, one after another from the first on; the third ends play. One role with one move, which is legal.
 pub const COUNTDOWN: [u16; 51] = [
@@ -26,14 +21,6 @@ pub const STUCK: [u16; 51] = [
     1, 3, 1, 9, 4, 3, 1, 0, 2, 0, 0, 0, 0, 0, 0, 0, 1, 1, 0, 1, 1, 1, 1, 1, 2, 0, 1, 0, 1, 0, 3, 1,
     0, 0, 0, 1, 0, 2, 0, 3, 0, 0, 1, 0, 0, 2, 0, 0, 1, 0, 0,
 ];
-
-pub fn bytes_of(heap: Global, words: &[u16]) -> Result<Vec<u8>, Fail> {
-    let mut bytes = Vec::new(heap);
-    for word in words {
-        bytes.extend_from_slice(&word.to_be_bytes())?;
-    }
-    Ok(bytes)
-}
 
 pub fn opened(heap: Global, words: &[u16]) -> Result<Docket, Fail> {
     let bytes = bytes_of(heap, words)?;

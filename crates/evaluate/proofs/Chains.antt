@@ -1,27 +1,15 @@
--- Bodies along their chains, a record at a time; and how many records of each kind rules have.
-use Rattle.std.proofs.Common.{◌≡◌, ℕ, ◌+◌, ◌-◌, ◌<◌, ◌≤◌, [], ◌∷◌, map, length, ap, subst, arith}
+-- Where chains of bodies end, and how many records of each kind rules have.
+use Rattle.std.proofs.Common.{◌≡◌, ℕ, ◌+◌, ◌-◌, ◌<◌, ◌≤◌, [], map, length, ap, subst, arith}
 use Rattle.std.proofs.lemmas.Bool.{and_parts, leb-true}
 use Rattle.rules.specs.declared.opened.Rules.{Rules}
 use Rattle.rules.specs.Opens.{atoms_of, tables_of}
-use Rattle.rules.proofs.Chains.{chain_none, chain_step}
+use Rattle.rules.proofs.Chains.{chain_none}
 use Rattle.rules.proofs.Invariant.{rules_linked}
-use Rattle.evaluate.specs.Program.{atom_at, part_of, literal_at, rule_at, body_from, bodies_from}
-
-pub body_ends : (R : Rules) → body_from R 0 ≡ []
-unfolding body_from
-body_ends R = ap (map (λ k. part_of (literal_at R k))) (chain_none (tables_of R).next_literal R.layout.literals)
-
-pub body_goes : (R : Rules) (k : ℕ) → 0 < k → k ≤ R.layout.literals → body_from R k ≡ part_of (literal_at R k) ∷ body_from R (literal_at R k).next
-unfolding body_from
-body_goes R k p h = ap (map (λ j. part_of (literal_at R j))) (chain_step (tables_of R).next_literal R.layout.literals (rules_linked R).next_literals k p h)
+use Rattle.evaluate.specs.Program.{atom_at, rule_at, body_from, bodies_from}
 
 pub bodies_end : (R : Rules) → bodies_from R 0 ≡ []
 unfolding bodies_from
 bodies_end R = ap (map (λ k. body_from R (rule_at R k).first)) (chain_none (tables_of R).next_rule R.layout.rules)
-
-pub bodies_go : (R : Rules) (k : ℕ) → 0 < k → k ≤ R.layout.rules → bodies_from R k ≡ body_from R (rule_at R k).first ∷ bodies_from R (rule_at R k).next
-unfolding bodies_from
-bodies_go R k p h = ap (map (λ j. body_from R (rule_at R j).first)) (chain_step (tables_of R).next_rule R.layout.rules (rules_linked R).next_rules k p h)
 
 pub atoms_are : (R : Rules) → R.layout.atoms ≡ length (atoms_of R)
 atoms_are R = R.shaped.2

@@ -9,6 +9,7 @@ pub mod Members
 pub mod Related
 pub mod Steps
 pub mod Fitting
+pub mod Walked
 pub mod Givens
 pub mod Steady
 pub mod Leasts

@@ -1,5 +1,5 @@
 -- Reads of values and of records.
-use Rattle.std.proofs.Common.{◌≡◌, ℕ, ◌-◌, ◌<◌, List, [], ◌∷◌, map, length, get_or, sym, ap, ◌∙◌, ap₂, arith}
+use Rattle.std.proofs.Common.{◌≡◌, ℕ, ◌<◌, List, [], ◌∷◌, map, length, get_or, sym, ap, ◌∙◌, arith}
 use Rattle.std.proofs.lemmas.List.{get_or-map}
 use Rattle.evaluate.specs.Evaluate.{Ops, look}
 
@@ -10,7 +10,3 @@ look_at o means vs k i v h e p = ap means e ∙ sym (get_or-map means vs i v o.n
 pub look_same : {V X : Type 0} (o : Ops V) (means : X → V) (vs ws : List X) (i j : ℕ) → i < length vs → j < length ws → ((d : X) → get_or vs i d ≡ get_or ws j d) → look o (map means vs) i ≡ look o (map means ws) j
 look_same o means [] ws i j h k same = absurd (omega arith)
 look_same o means (v ∷ vs) ws i j h k same = get_or-map means (v ∷ vs) i v o.no' h ∙ ap means (same v) ∙ sym (get_or-map means ws j v o.no' k)
-
--- a record read by its number
-pub record_read : {X : Type 0} (none : X) (rs all : List X) (i k : ℕ) → rs ≡ all → i ≡ k → get_or rs (i - 1) none ≡ get_or all (k - 1) none
-record_read none rs all i k e f = ap₂ (λ l n. get_or l (n - 1) none) e f

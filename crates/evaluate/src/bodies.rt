@@ -22,19 +22,15 @@ fn literal<T: TruthForm>(l: Literal, values: &[T]) -> T
     }
 }
 
-// The value of the body that starts at literal `first`. The file chains literals and rules by number, so a walk is a loop: an iterator
-// of its own over a chain would need the same bounds, and its laws besides.
+// The value of the body that starts at literal `first`.
 fn body<T: TruthForm>(rules: &Rules, first: u16, values: &[T]) -> T
     requires first { first ≤ rules.now.layout.literals }
     requires values { length values.now ≡ length (atoms_of rules.now) }
     ensures { T.means result ≡ body_means (meanings T.neg T.conj T.disj) (look (meanings T.neg T.conj T.disj) (map T.means values.now)) (λ _. only_yes) (body_from rules.now first) }
 {
     let mut all = T::yes();
-    let mut at = first;
-    while at != 0 {
-        let l = rules.literals()[usize::from(at) - 1];
+    for (_, &l) in rules.literals_from(first) {
         all = all.and(literal(l, values));
-        at = l.next;
     }
     all
 }
@@ -46,11 +42,8 @@ pub fn any_body<T: TruthForm>(rules: &Rules, first: u16, values: &[T]) -> T
     ensures { T.means result ≡ any_of (meanings T.neg T.conj T.disj) (look (meanings T.neg T.conj T.disj) (map T.means values.now)) (λ _. only_no) (bodies_from rules.now first) }
 {
     let mut any = T::no();
-    let mut at = first;
-    while at != 0 {
-        let r = rules.rules()[usize::from(at) - 1];
+    for (_, &r) in rules.rules_from(first) {
         any = any.or(body(rules, r.first, values));
-        at = r.next;
     }
     any
 }

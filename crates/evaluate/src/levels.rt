@@ -11,8 +11,8 @@ use crate::indexed::Indexed;
 use truth::form::TruthForm;
 
 // Levels on the values of a grid: rows of them, and the last round's. Each contract says that there is room: a struct around the slice
-// with this as a ghost field would need a clause in each that it holds the same slice still. Levels are plain numbers below 5, since a
-// play counts them up to its horizon.
+// with this as a ghost field would need a clause in each that it holds the same slice still. Levels are plain numbers below 5: a type
+// of their own would be made from such a number at each turn, under the same condition.
 impl<'a> Indexed<'a> {
     // Evaluates a level: from its fluents' values and those of its does atoms, the values of all its atoms.
     pub(crate) fn evaluate<T: TruthForm>(self, values: &mut [T], level: usize)

@@ -57,6 +57,7 @@ fn put_position(position: &[bool], values: &mut [Three])
     requires { length position.now ≤ length values.old }
     ensures { (a : ℕ) (d : Three) → slice_index_or values.new a d ≡ (if nat_lt a (length position.now) then answer_of (slice_index_or position.now a false) else slice_index_or values.old a d) }
 {
+    // After a `zip` of the two nothing is known of the values.
     for (f, value) in values[..position.len()].iter_mut().enumerate() {
         *value = Three::from(position[f]);
     }

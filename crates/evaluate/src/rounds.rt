@@ -11,7 +11,8 @@ use truth::form::TruthForm;
 
 // Rounds of a stratum on a level's row, each on the last round's values, which stand in a row of their own. Each row has a value for
 // each atom; only atoms of the stratum are read and written. Strata are plain numbers below 32, as in a rule file: a type of their own
-// would be made from such a number at each place, under the same condition.
+// would be made from such a number at each place, under the same condition. A struct around both rows would need a clause in each
+// contract that it holds the same slices still.
 impl<'a> Indexed<'a> {
     // The atoms of a stratum, ascending.
     fn members(self, s: u16) -> &'a [u16]

@@ -1,5 +1,5 @@
 // Levels over both truth forms.
-use crate::samples::{SECOND, TANGLED, opened};
+use crate::samples::{TANGLED, opened};
 use evaluate::grid::Grid;
 use evaluate::indexed::Indexed;
 use evaluate::strata::Strata;
@@ -7,6 +7,7 @@ use std::test::Fail;
 use truth::form::TruthForm;
 use truth::three::Three;
 use truth::wide::Wide;
+use worked::files::SECOND;
 
 const VALUES: usize = 3392;
 

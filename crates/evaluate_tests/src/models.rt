@@ -1,11 +1,12 @@
 // Which atoms are true in a position when a joint move is made.
-use crate::samples::{FIRST, SECOND, TANGLED, opened};
+use crate::samples::{TANGLED, opened};
 use evaluate::indexed::Indexed;
 use evaluate::models::model;
 use evaluate::strata::Strata;
 use std::process::Abort;
 use std::test::Fail;
 use truth::three::Three;
+use worked::files::{FIRST, SECOND};
 
 const VALUES: usize = 3392;
 

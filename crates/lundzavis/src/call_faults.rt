@@ -79,6 +79,7 @@ impl fmt::Display for TrialExplanation<'_> {
     }
 }
 
+// A fault carries the offset of a word, so words are told apart by their offsets and not by names.
 impl TrialExplanation<'_> {
     fn property_word<W: fmt::Write>(self, f: &mut fmt::Formatter<W>, place: usize) -> fmt::Result {
         let number = place / 6 + 1;

@@ -83,7 +83,7 @@ pub fn parse(heap: Global, words: &[String]) -> Result<Vec<Call<'_>>, NoCalls> {
         .try_collect(heap)
 }
 
-// What came of a call, the worse one last.
+// What came of a call, the worse one last. No `Result`: a refusal does not stop the calls after it.
 #[derive(Clone, Copy, PartialEq, Eq, PartialOrd, Ord)]
 enum Outcome {
     Answered,

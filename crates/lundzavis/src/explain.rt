@@ -4,7 +4,7 @@ use rules::kinds::Kind;
 use rules::layout::Layout;
 use std::fmt;
 
-// The word at an offset in bytes.
+// The word at an offset in bytes; 0 past the end, where no fault has its place.
 pub fn word(bytes: &[u8], place: usize) -> u16 {
     match bytes.get(place..) {
         Some([high, low, ..]) => u16::from_be_bytes([*high, *low]),
@@ -90,6 +90,7 @@ impl fmt::Display for Explanation<'_> {
     }
 }
 
+// A fault carries the offset of a word, so words are told apart by their offsets and not by names.
 impl Explanation<'_> {
     pub fn new(fault: Fault, bytes: &[u8]) -> Explanation<'_> {
         Explanation {
@@ -103,6 +104,7 @@ impl Explanation<'_> {
         word(self.bytes, place)
     }
 
+    // Where the records of each kind begin, also in a file that is refused and so never becomes records.
     fn atoms(self) -> Records {
         Records {
             start: 2 * (6 + usize::from(self.layout.roles)),
@@ -148,7 +150,7 @@ impl Explanation<'_> {
             literals: _,
             moves,
         } = self.layout;
-        let least = 2 * usize::from(fluents) + 2 * usize::from(moves) + 1;
+        let least = self.layout.terminal().saturating_add(1);
         write!(
             f,
             "the header counts {atoms} atoms; {fluents} fluents and {moves} moves need at least {least}"

@@ -1,4 +1,5 @@
 // What numbers and parts mean, in words.
+use docket::choices::choice_at;
 use play::part::Part;
 use rules::kinds::Kind;
 use rules::layout::Layout;
@@ -44,16 +45,9 @@ pub struct AtomName<'a> {
 
 impl AtomName<'_> {
     // The role and move, from 1, of place i among the moves of all roles.
-    fn role_and_move(self, place: usize) -> (usize, usize) {
-        let mut left = place;
-        for (role, count) in (1..).zip(self.counts) {
-            let count = usize::from(*count);
-            if left < count {
-                return (role, left + 1);
-            }
-            left -= count;
-        }
-        (0, 0)
+    fn role_and_move(self, place: usize) -> (usize, u16) {
+        let choice = choice_at(self.counts, place);
+        (choice.role.saturating_add(1), choice.number)
     }
 }
 

@@ -3,7 +3,7 @@ use docket::opening::open;
 use play::part::Part;
 use std::io;
 
-// The worked rule file. A price is live or old; its feed makes a fresh tick or a late one, and a fresh tick makes it live, a late one old.
+// The worked rule file, as the bytes of a file, since a file is what the program opens. A price is live or old; its feed makes a fresh tick or a late one, and a fresh tick makes it live, a late one old.
 pub static WORKED: [u8; 96] = [
     // version 1, 2 fluents, 1 role, 9 atoms, 4 rules, 2 literals
     0, 1, 0, 2, 0, 1, 0, 9, 0, 4, 0, 2,

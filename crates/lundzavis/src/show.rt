@@ -75,6 +75,7 @@ impl fmt::Display for InitialPosition<'_> {
 #[derive(Clone, Copy)]
 struct Words<T>(T);
 
+// Links are numbers as in the file, and one of 0 is told as none.
 impl fmt::Display for Words<Atom> {
     fn fmt<W: fmt::Write>(&self, f: &mut fmt::Formatter<W>) -> fmt::Result {
         let Atom {

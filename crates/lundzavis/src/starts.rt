@@ -1,5 +1,6 @@
 // Play at the initial position of an opened rule file: which moves are legal, whether play has ended, and what each joint move leads to.
 use crate::wording::{FLUENTS, Wording};
+use docket::memories::VALUES;
 use evaluate::indexed::Indexed;
 use evaluate::models::model;
 use evaluate::strata::Strata;
@@ -9,9 +10,6 @@ use rules::records::Mark;
 use std::alloc::{AllocError, Global};
 use std::{fmt, io};
 use truth::three::Three;
-
-// Values for evaluation: five levels, the last round, and a table of properties.
-const VALUES: usize = 3392;
 
 // Joint moves are shown up to this many.
 const SHOWN: usize = 16;
@@ -45,7 +43,7 @@ pub fn show(rt: &HostRuntime, rules: &Rules) -> io::Result<()> {
     for (role, numbers) in (1usize..).zip(legal.roles.iter()) {
         println!(rt; "legal for role {role}:{}", Moves(numbers.as_slice()))?;
     }
-    if is_yes(values.as_slice(), terminal_at(rules.rules.layout())) {
+    if is_yes(values.as_slice(), rules.rules.layout().terminal()) {
         return println!(rt; "terminal: play has ended");
     }
     println!(rt; "terminal: no")?;
@@ -54,11 +52,6 @@ pub fn show(rt: &HostRuntime, rules: &Rules) -> io::Result<()> {
 
 fn is_yes(values: &[Three], atom: usize) -> bool {
     matches!(values.get(atom), Some(Three::Yes))
-}
-
-// Where terminal stands, counted from 0; the legal atoms stand before it.
-fn terminal_at(layout: Layout) -> usize {
-    2 * usize::from(layout.fluents) + 2 * usize::from(layout.moves)
 }
 
 fn initial(heap: Global, rules: &Rules) -> Result<Vec<bool>, AllocError> {
@@ -146,7 +139,7 @@ struct StillAtoms<'a, 'b> {
 
 impl fmt::Display for StillAtoms<'_, '_> {
     fn fmt<W: fmt::Write>(&self, f: &mut fmt::Formatter<W>) -> fmt::Result {
-        let further = terminal_at(self.rules.layout());
+        let further = self.rules.layout().terminal();
         ATOMS.write(
             f,
             (1..)

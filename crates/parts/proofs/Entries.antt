@@ -6,7 +6,7 @@ use Rattle.rules.specs.declared.opened.Rules.{Rules}
 use Rattle.evaluate.specs.Evaluate.{Ops, look}
 use Rattle.property.specs.declared.records.Record.{Record}
 use Rattle.property.specs.Trees.{reading_at}
-use Rattle.parts.specs.Tables.{entry_at, KeptBesideLevel, FilledBehind, FilledFrom}
+use Rattle.parts.specs.Tables.{place_in_table, KeptBesideLevel, FilledBehind, FilledFrom}
 use Rattle.parts.specs.Values.{value}
 
 -- a place that stays, stays in what is meant
@@ -17,16 +17,16 @@ same_place m e (x ∷ xs) (y ∷ ys) zero h h' s = ap m (s x)
 same_place m e (x ∷ xs) (y ∷ ys) (suc i) h h' s = same_place m e xs ys i (omega arith) (omega arith) s
 
 module _ {X V : Type 0} (o : Ops V) (means : X → V) (R : Rules) (rs : List Record) (L : ℕ → List V) (few : length rs ≤ 64) (xs ys : List X) (whole : length xs ≡ 320) (still_whole : length ys ≡ 320) where
-  pub filled_kept : (level left i : ℕ) → level < 5 → ((k : ℕ) (d : X) → 0 < k → k ≤ 64 → get_or ys (entry_at level k) d ≡ get_or xs (entry_at level k) d)
+  pub filled_kept : (level left i : ℕ) → level < 5 → ((k : ℕ) (d : X) → 0 < k → k ≤ 64 → get_or ys (place_in_table level k) d ≡ get_or xs (place_in_table level k) d)
       → FilledBehind o means R rs L xs level left i → FilledBehind o means R rs L ys level left i
   filled_kept level left i h same filled k l u =
-      same_place means o.no' xs ys (entry_at level k) (omega arith) (omega arith) (λ d. same k d (omega arith) (omega arith)) ∙ filled k l u
+      same_place means o.no' xs ys (place_in_table level k) (omega arith) (omega arith) (λ d. same k d (omega arith) (omega arith)) ∙ filled k l u
 
   -- the entries of other levels stay
   pub other_level : (level j left i : ℕ) → j < 5 → (j ≡ level → ⊥) → KeptBesideLevel level xs ys → FilledBehind o means R rs L xs j left i → FilledBehind o means R rs L ys j left i
-  other_level level j left i h ne kept = filled_kept j left i h (λ k d p u. kept (entry_at j k) d (apart k p u (cases_order j level)))
+  other_level level j left i h ne kept = filled_kept j left i h (λ k d p u. kept (place_in_table j k) d (apart k p u (cases_order j level)))
     where
-      apart : (k : ℕ) → 0 < k → k ≤ 64 → (j ≡ level) ⊎ ((j < level) ⊎ (level < j)) → (entry_at j k < entry_at level 1) ⊎ (entry_at (level + 1) 1 ≤ entry_at j k)
+      apart : (k : ℕ) → 0 < k → k ≤ 64 → (j ≡ level) ⊎ ((j < level) ⊎ (level < j)) → (place_in_table j k < place_in_table level 1) ⊎ (place_in_table (level + 1) 1 ≤ place_in_table j k)
       apart k p u (inl e) = absurd (ne e)
       apart k p u (inr (inl l)) = inl (omega arith)
       apart k p u (inr (inr l)) = inr (omega arith)
@@ -45,21 +45,21 @@ module _ {X V : Type 0} (o : Ops V) (means : X → V) (R : Rules) (rs : List Rec
       ]
 
 -- record m is entered
-module _ {X : Type 0} (xs ys : List X) (level m : ℕ) (v : X) (above : 0 < m) (within : m ≤ 64) (is : ys ≡ set xs (entry_at level m) v) where
+module _ {X : Type 0} (xs ys : List X) (level m : ℕ) (v : X) (above : 0 < m) (within : m ≤ 64) (is : ys ≡ set xs (place_in_table level m) v) where
   pub enter_kept : KeptBesideLevel level xs ys
-  enter_kept i d out = ap (λ zs. get_or zs i d) is ∙ get_or-set_other xs (entry_at level m) i v d (away out)
+  enter_kept i d out = ap (λ zs. get_or zs i d) is ∙ get_or-set_other xs (place_in_table level m) i v d (away out)
     where
-      away : (i < entry_at level 1) ⊎ (entry_at (level + 1) 1 ≤ i) → i ≡ entry_at level m → ⊥
+      away : (i < place_in_table level 1) ⊎ (place_in_table (level + 1) 1 ≤ i) → i ≡ place_in_table level m → ⊥
       away (inl l) e = omega arith
       away (inr l) e = omega arith
 
   pub enter_filled : {V : Type 0} (o : Ops V) (means : X → V) (R : Rules) (rs : List Record) (L : ℕ → List V) (left : ℕ) → length rs ≤ 64 → level < 5 → 320 ≤ length xs
       → means v ≡ value o R L (reading_at rs m).whole level left → FilledBehind o means R rs L xs level left m → FilledBehind o means R rs L ys level left (m - 1)
   enter_filled o means R rs L left few h room made filled k l u =
-      let inside : entry_at level m < length (map means xs) = omega (arith, length-map xs means) in
-      ap (λ zs. look o (map means zs) (entry_at level k)) is ∙ ap (λ zs. look o zs (entry_at level k)) (map-set means xs (entry_at level m) v)
+      let inside : place_in_table level m < length (map means xs) = omega (arith, length-map xs means) in
+      ap (λ zs. look o (map means zs) (place_in_table level k)) is ∙ ap (λ zs. look o zs (place_in_table level k)) (map-set means xs (place_in_table level m) v)
       ∙ elim (cases_eq k m) [
-        | inl e ↦ ap (λ n. look o (set (map means xs) (entry_at level m) (means v)) (entry_at level n)) e
-            ∙ get_or-set_same (map means xs) (entry_at level m) (means v) o.no' inside ∙ made ∙ ap (λ n. value o R L (reading_at rs n).whole level left) (sym e)
-        | inr ne ↦ get_or-set_other (map means xs) (entry_at level m) (entry_at level k) (means v) o.no' (λ e. omega arith) ∙ filled k (omega arith) u
+        | inl e ↦ ap (λ n. look o (set (map means xs) (place_in_table level m) (means v)) (place_in_table level n)) e
+            ∙ get_or-set_same (map means xs) (place_in_table level m) (means v) o.no' inside ∙ made ∙ ap (λ n. value o R L (reading_at rs n).whole level left) (sym e)
+        | inr ne ↦ get_or-set_other (map means xs) (place_in_table level m) (place_in_table level k) (means v) o.no' (λ e. omega arith) ∙ filled k (omega arith) u
       ]

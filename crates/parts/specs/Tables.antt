@@ -14,8 +14,8 @@ abbrev pub tree_of : Property → Tree
 tree_of p = property_of (records_of p)
 
 -- the place of record k, from 1, at a level of a table: 64 records at each of five levels
-abbrev pub entry_at : ℕ → ℕ → ℕ
-entry_at level k = 64 * level + (k - 1)
+abbrev pub place_in_table : ℕ → ℕ → ℕ
+place_in_table level k = 64 * level + (k - 1)
 
 -- where the table begins and ends, behind the rows
 abbrev pub table_start : ℕ
@@ -33,7 +33,7 @@ KeptBesideTable {X} xs ys = (i : ℕ) (d : X) → (i < table_start) ⊎ (table_e
 
 -- tables: but in the entries of a level
 abbrev pub KeptBesideLevel : {X : Type 0} → ℕ → List X → List X → Type 0
-KeptBesideLevel {X} level xs ys = (i : ℕ) (d : X) → (i < entry_at level 1) ⊎ (entry_at (level + 1) 1 ≤ i) → slice_index_or ys i d ≡ slice_index_or xs i d
+KeptBesideLevel {X} level xs ys = (i : ℕ) (d : X) → (i < place_in_table level 1) ⊎ (place_in_table (level + 1) 1 ≤ i) → slice_index_or ys i d ≡ slice_index_or xs i d
 
 module _ {X V : Type 0} (means : X → V) (R : Rules) (xs : List X) where
   -- the row of a level means the values that L has
@@ -46,7 +46,7 @@ module _ {X V : Type 0} (means : X → V) (R : Rules) (xs : List X) where
 module _ {X V : Type 0} (o : Ops V) (means : X → V) (R : Rules) (rs : List Record) (L : ℕ → List V) (xs : List X) where
   -- the entry of record k means the value of the property that the record stands for
   abbrev pub Entered : (level left k : ℕ) → Type 0
-  Entered level left k = look o (map means xs) (entry_at level k) ≡ value o R L (reading_at rs k).whole level left
+  Entered level left k = look o (map means xs) (place_in_table level k) ≡ value o R L (reading_at rs k).whole level left
 
   -- so do those of the records behind record i
   abbrev pub FilledBehind : (level left i : ℕ) → Type 0

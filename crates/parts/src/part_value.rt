@@ -27,14 +27,14 @@ use truth::form::TruthForm;
 
 // The value of a property at level 0 of a run over a horizon.
 pub fn property_value<T: TruthForm>(
-    run: &Run<'_, T>,
+    run: &Run<'_, '_, T>,
     table: &mut [T; ENTRIES],
     property: &Property,
     horizon: usize,
 ) -> T
     requires fits { Fits run.now.rules.now (records_of property.now) }
     requires horizon { horizon < 5 }
-    ensures { (L : ℕ → List (T.World → Answers)) → LevelsIn T.means run.now.rules.now run.now.rows.now L horizon → T.means result ≡ value_of (meanings T.neg T.conj T.disj) run.now.rules.now L (tree_of property.now) 0 horizon }
+    ensures { (L : ℕ → List (T.World → Answers)) → LevelsIn T.means run.now.rules.now run.now.grid.now.values.now L horizon → T.means result ≡ value_of (meanings T.neg T.conj T.disj) run.now.rules.now L (tree_of property.now) 0 horizon }
 {
     Formulas::of(run, property).fill(table, horizon);
     entry(table, 0, 1)
@@ -51,23 +51,23 @@ pub struct Claim<'a> {
     ghost all: { (i : ℕ) (q : Property) → i < length docket.now → Fits rules.now (records_of (slice_index_or docket.now i q)) },
 }
 
-// A claim, for a play whose levels stand in rows.
+// A claim, for a play whose levels stand in a grid.
 #[derive(Drop)]
-struct Trial<'a, T> {
+struct Trial<'a, 'g, T> {
     claim: Claim<'a>,
-    rows: &'a [T],
-    ghost room: { Roomy rows.now },
+    grid: &'a Grid<'g, T>,
+    ghost room: { Roomy grid.now.values.now },
 }
 
-impl<'a, T: TruthForm> Trial<'a, T> {
+impl<'a, 'g, T: TruthForm> Trial<'a, 'g, T> {
     // All of a value and of those properties that the step assumes, at level 0.
     fn and_assumed(&self, table: &mut [T; ENTRIES], horizon: usize, first: T) -> T
         requires { horizon < 5 }
-        ensures { (L : ℕ → List (T.World → Answers)) → LevelsIn T.means self.now.claim.rules.now self.now.rows.now L horizon → T.means result ≡ each_value (meanings T.neg T.conj T.disj) self.now.claim.rules.now L (T.means first) (assumed (tree_of self.now.claim.property.now) (map tree_of self.now.claim.docket.now)) horizon }
+        ensures { (L : ℕ → List (T.World → Answers)) → LevelsIn T.means self.now.claim.rules.now self.now.grid.now.values.now L horizon → T.means result ≡ each_value (meanings T.neg T.conj T.disj) self.now.claim.rules.now L (T.means first) (assumed (tree_of self.now.claim.property.now) (map tree_of self.now.claim.docket.now)) horizon }
     {
         let run = Run {
             rules: self.claim.rules,
-            rows: self.rows,
+            grid: self.grid,
         };
         let degree = self.claim.property.degree();
         let mut all = first;
@@ -81,11 +81,11 @@ impl<'a, T: TruthForm> Trial<'a, T> {
 
     // All of: the moves are legal, the property is not satisfied.
     fn base_value(&self, table: &mut [T; ENTRIES]) -> T
-        ensures { (L : ℕ → List (T.World → Answers)) → LevelsIn T.means self.now.claim.rules.now self.now.rows.now L (degree_of (tree_of self.now.claim.property.now)) → T.means result ≡ part_value_of (meanings T.neg T.conj T.disj) self.now.claim.rules.now L Base [] (tree_of self.now.claim.property.now) }
+        ensures { (L : ℕ → List (T.World → Answers)) → LevelsIn T.means self.now.claim.rules.now self.now.grid.now.values.now L (degree_of (tree_of self.now.claim.property.now)) → T.means result ≡ part_value_of (meanings T.neg T.conj T.disj) self.now.claim.rules.now L Base [] (tree_of self.now.claim.property.now) }
     {
         let run = Run {
             rules: self.claim.rules,
-            rows: self.rows,
+            grid: self.grid,
         };
         let horizon = usize::from(self.claim.property.degree());
         let legal = run.legality(horizon);
@@ -95,11 +95,11 @@ impl<'a, T: TruthForm> Trial<'a, T> {
 
     // All of: the moves are legal, the property and each assumed one is satisfied, following-the-property is not.
     fn step_value(&self, table: &mut [T; ENTRIES]) -> T
-        ensures { (L : ℕ → List (T.World → Answers)) → LevelsIn T.means self.now.claim.rules.now self.now.rows.now L (degree_of (tree_of self.now.claim.property.now) + 1) → T.means result ≡ part_value_of (meanings T.neg T.conj T.disj) self.now.claim.rules.now L Step (map tree_of self.now.claim.docket.now) (tree_of self.now.claim.property.now) }
+        ensures { (L : ℕ → List (T.World → Answers)) → LevelsIn T.means self.now.claim.rules.now self.now.grid.now.values.now L (degree_of (tree_of self.now.claim.property.now) + 1) → T.means result ≡ part_value_of (meanings T.neg T.conj T.disj) self.now.claim.rules.now L Step (map tree_of self.now.claim.docket.now) (tree_of self.now.claim.property.now) }
     {
         let run = Run {
             rules: self.claim.rules,
-            rows: self.rows,
+            grid: self.grid,
         };
         let horizon = usize::from(self.claim.property.degree()) + 1;
         let legal = run.legality(horizon);
@@ -110,8 +110,9 @@ impl<'a, T: TruthForm> Trial<'a, T> {
         self.and_assumed(table, horizon, first).and(follows.not())
     }
 
+    // The value of the part. The table is written.
     fn value(&self, table: &mut [T; ENTRIES]) -> T
-        ensures { (L : ℕ → List (T.World → Answers)) → LevelsIn T.means self.now.claim.rules.now self.now.rows.now L (horizon_of self.now.claim.part (degree_of (tree_of self.now.claim.property.now))) → T.means result ≡ part_value_of (meanings T.neg T.conj T.disj) self.now.claim.rules.now L self.now.claim.part (map tree_of self.now.claim.docket.now) (tree_of self.now.claim.property.now) }
+        ensures { (L : ℕ → List (T.World → Answers)) → LevelsIn T.means self.now.claim.rules.now self.now.grid.now.values.now L (horizon_of self.now.claim.part (degree_of (tree_of self.now.claim.property.now))) → T.means result ≡ part_value_of (meanings T.neg T.conj T.disj) self.now.claim.rules.now L self.now.claim.part (map tree_of self.now.claim.docket.now) (tree_of self.now.claim.property.now) }
     {
         match self.claim.part {
             Part::Base => self.base_value(table),
@@ -121,12 +122,18 @@ impl<'a, T: TruthForm> Trial<'a, T> {
 }
 
 impl<'a> Claim<'a> {
-    fn value_on<T: TruthForm>(self, rows: &'a [T], behind: &mut [T]) -> T
-        requires rows { Roomy rows.now }
+    // On rows and room for a table, apart: what a grid of the rows leaves them as is said in this contract.
+    fn value_on<T: TruthForm>(self, rows: &mut [T], behind: &mut [T]) -> T
+        requires rows { Roomy rows.old }
         requires room { 320 ≤ length behind.old }
-        ensures { (L : ℕ → List (T.World → Answers)) → LevelsIn T.means self.entry.rules.now rows.now L (horizon_of self.entry.part (degree_of (tree_of self.entry.property.now))) → T.means result ≡ part_value_of (meanings T.neg T.conj T.disj) self.entry.rules.now L self.entry.part (map tree_of self.entry.docket.now) (tree_of self.entry.property.now) }
+        ensures kept { rows.new ≡ rows.old }
+        ensures value { (L : ℕ → List (T.World → Answers)) → LevelsIn T.means self.entry.rules.now rows.old L (horizon_of self.entry.part (degree_of (tree_of self.entry.property.now))) → T.means result ≡ part_value_of (meanings T.neg T.conj T.disj) self.entry.rules.now L self.entry.part (map tree_of self.entry.docket.now) (tree_of self.entry.property.now) }
     {
-        let trial = Trial { claim: self, rows };
+        let grid = Grid { values: rows };
+        let trial = Trial {
+            claim: self,
+            grid: &grid,
+        };
         trial.value(behind.first_chunk_mut::<ENTRIES>().unwrap())
     }
 

@@ -6,6 +6,7 @@ use Rattle.property.specs.Trees.{Property, isn't, following, degree}
 use Rattle.play.specs.Sequences.{ended, stop, move, Stuck}
 use Rattle.play.specs.Truth.{satisfied, TrueAt}
 use Rattle.play.specs.Claims.{NegationsOfFollowing, StuckPositionsCount}
+use Rattle.play.proofs.Prefixes.{all_moves}
 
 module _ {Pos Joint : Type 0} (G : Game Pos Joint) where
   following_at_end : (p : Property) (S : Pos) → ended G S ≡ true → TrueAt G (following p) S
@@ -20,8 +21,7 @@ module _ {Pos Joint : Type 0} (G : Game Pos Joint) where
   not_out p S e h (move A t l σ) c = h (move A t l σ) c
 
   not_in : (p : Property) (S : Pos) → ended G S ≡ false → TrueAt G (following (isn't p)) S → TrueAt G (isn't (following p)) S
-  not_in p S e h stop (inl c) = absurd (omega arith)
-  not_in p S e h stop (inr c) = absurd (both_ways (ended G S) e c.1)
+  not_in p S e h stop c = absurd (omega (arith, all_moves G (degree (following p)) stop e c))
   not_in p S e h (move A t l σ) c = h (move A t l σ) c
 
   pub negations_of_following : NegationsOfFollowing G
@@ -32,12 +32,10 @@ module _ {Pos Joint : Type 0} (G : Game Pos Joint) where
 
   here_out : (p : Property) (S : Pos) → degree p ≡ 0 → satisfied G p S [] ≡ true → TrueAt G p S
   here_out p S z h stop c = h
-  here_out p S z h (move A t l σ) (inl c) = absurd (omega arith)
-  here_out p S z h (move A t l σ) (inr c) = absurd (omega arith)
+  here_out p S z h (move A t l σ) c = absurd (omega arith)
 
   ahead_true : (p : Property) (S : Pos) → 0 < degree p → Stuck G S → TrueAt G p S
-  ahead_true p S h s stop (inl c) = absurd (omega arith)
-  ahead_true p S h s stop (inr c) = absurd (both_ways (ended G S) s.going c.1)
+  ahead_true p S h s stop c = absurd (omega (arith, all_moves G (degree p) stop s.going c))
   ahead_true p S h s (move A t l σ) c = absurd (both_ways (G.legal S A) (s.no_move A) l)
 
   pub stuck_positions_count : StuckPositionsCount G

@@ -1,54 +1,40 @@
 -- The mark of a play says whether it breaks the part.
-use Rattle.std.proofs.Common.{◌≡◌, true, not, ◌&&◌, List, [], ◌∷◌, refl}
+use Rattle.std.proofs.Common.{◌≡◌, Bool, true, false, not, List, [], ◌∷◌, Decides, refl}
 use Rattle.std.specs.List.{AllByRecursion}
-use Rattle.std.proofs.lemmas.Bool.{and_parts, and_from, not-true, not_from_false}
+use Rattle.std.proofs.lemmas.Bool.{not-true, not_from_false}
+use Rattle.std.proofs.lemmas.Bool.Decides.{Decides-like, Decides-and}
 use Rattle.evaluate.specs.Positions.{Game}
 use Rattle.property.specs.Trees.{Property, following}
 use Rattle.play.specs.declared.part.Part.{Part}
 use Rattle.play.specs.declared.part.Part.TheVariants.{Base, Step}
 use Rattle.play.specs.Truth.{satisfied}
-use Rattle.play.specs.Parts.{assumed, Play, PlayOf, run, run_legal, Against, Breaks}
-use Rattle.play.specs.Marks.{each_satisfied, shown, marked}
+use Rattle.play.specs.Parts.{assumed, run, run_legal, Against}
+use Rattle.play.specs.Marks.{each_satisfied, shown}
 use Rattle.play.specs.Claims.{MarksAreRight}
 
+-- a test, and its negation, as facts
+test_decides : (t : Bool) → Decides t (t ≡ true)
+test_decides t = (λ h. h, λ h. h)
+
+not_decides : (t : Bool) → Decides (not t) (t ≡ false)
+not_decides t = (not-true t, not_from_false t)
+
+module _ {Pos Joint : Type 0} (G : Game Pos Joint) (S : Pos) (rest : List Pos) where
+  each_decides : (qs : List Property) → Decides (each_satisfied G qs S rest) (AllByRecursion (λ q. satisfied G q S rest ≡ true) qs)
+  each_decides [] = (λ _. tt, λ _. refl)
+  each_decides (q ∷ qs) = Decides-and _ _ (test_decides (satisfied G q S rest)) (each_decides qs)
+
+  shown_decides : (part : Part) (qs : List Property) (p : Property) → Decides (shown G part qs p S rest) (Against G part qs p S rest)
+  shown_decides Base qs p = not_decides (satisfied G p S rest)
+  shown_decides Step qs p =
+      let beside = Decides-and _ _ (each_decides qs) (not_decides (satisfied G (following p) S rest)) in
+      Decides-like _ (λ h. (h.0, h.1.0, h.1.1)) (λ h. (h.0, (h.1, h.2))) (Decides-and _ _ (test_decides (satisfied G p S rest)) beside)
+
 module _ {Pos Joint : Type 0} (G : Game Pos Joint) where
-  each_from : (qs : List Property) (S : Pos) (rest : List Pos) → AllByRecursion (λ q. satisfied G q S rest ≡ true) qs → each_satisfied G qs S rest ≡ true
-  each_from [] S rest h = refl
-  each_from (q ∷ qs) S rest h = and_from (satisfied G q S rest) (each_satisfied G qs S rest) h.0 (each_from qs S rest h.1)
-
-  from_each : (qs : List Property) (S : Pos) (rest : List Pos) → each_satisfied G qs S rest ≡ true → AllByRecursion (λ q. satisfied G q S rest ≡ true) qs
-  from_each [] S rest h = tt
-  from_each (q ∷ qs) S rest h =
-      let k = and_parts (satisfied G q S rest) (each_satisfied G qs S rest) h in (k.0, from_each qs S rest k.1)
-
-  shown_from : (part : Part) (qs : List Property) (p : Property) (S : Pos) (rest : List Pos) → Against G part qs p S rest → shown G part qs p S rest ≡ true
-  shown_from Base qs p S rest h = not_from_false (satisfied G p S rest) h
-  shown_from Step qs p S rest h =
-      and_from (satisfied G p S rest) (each_satisfied G qs S rest && not (satisfied G (following p) S rest)) h.0
-      (and_from (each_satisfied G qs S rest) (not (satisfied G (following p) S rest)) (each_from qs S rest h.1)
-      (not_from_false (satisfied G (following p) S rest) h.2))
-
-  from_shown : (part : Part) (qs : List Property) (p : Property) (S : Pos) (rest : List Pos) → shown G part qs p S rest ≡ true → Against G part qs p S rest
-  from_shown Base qs p S rest h = not-true (satisfied G p S rest) h
-  from_shown Step qs p S rest h =
-      let a = and_parts (satisfied G p S rest) (each_satisfied G qs S rest && not (satisfied G (following p) S rest)) h in
-      let b = and_parts (each_satisfied G qs S rest) (not (satisfied G (following p) S rest)) a.1 in
-      (a.0, from_each qs S rest b.0, not-true (satisfied G (following p) S rest) b.1)
-
-  module _ (part : Part) (docket : List Property) (p : Property) (play : Play Pos Joint) where
-    breaks_marked : Breaks G part docket p play → marked G part docket p play ≡ true
-    breaks_marked b =
-        let S = play.start in
-        let rest = run G S play.joints in
-        and_from (run_legal G S play.joints) (shown G part (assumed p docket) p S rest) b.legally
-        (shown_from part (assumed p docket) p S rest b.against)
-
-    marked_breaks : PlayOf G part p play → marked G part docket p play ≡ true → Breaks G part docket p play
-    marked_breaks is h =
-        let S = play.start in
-        let rest = run G S play.joints in
-        let k = and_parts (run_legal G S play.joints) (shown G part (assumed p docket) p S rest) h in
-        record { is_play = is; legally = k.0; against = from_shown part (assumed p docket) p S rest k.1 }
-
   pub marks_are_right : MarksAreRight G
-  marks_are_right part docket p play is = (breaks_marked part docket p play, marked_breaks part docket p play is)
+  marks_are_right part docket p play is =
+      let S = play.start in
+      let qs = assumed p docket in
+      let rest = run G S play.joints in
+      let d = Decides-and _ _ (test_decides (run_legal G S play.joints)) (shown_decides G S rest part qs p) in
+      (λ b. d.1 (b.legally, b.against), λ h. let k = d.0 h in record { is_play = is; legally = k.0; against = k.1 })

@@ -1,13 +1,13 @@
 -- What base and step say of sequences.
-use Rattle.std.proofs.Common.{◌≡◌, ◌+◌, true, false, List, refl, subst, inl, inr}
+use Rattle.std.proofs.Common.{◌≡◌, ◌+◌, true, List, refl}
 use Rattle.std.specs.List.{AllByRecursion}
-use Rattle.std.proofs.lemmas.Bool.{cases_Bool, both_ways}
+use Rattle.std.proofs.lemmas.Bool.{both_ways, true_from_ne_false}
 use Rattle.evaluate.specs.Positions.{Game}
 use Rattle.property.specs.Trees.{Property, following, degree}
 use Rattle.play.specs.declared.part.Part.TheVariants.{Base, Step}
 use Rattle.play.specs.Sequences.{Sequence, behind, Complete}
 use Rattle.play.specs.Truth.{satisfied, TrueAt}
-use Rattle.play.specs.Parts.{assumed, run, run_legal, BreaksBeside, HoldsBeside}
+use Rattle.play.specs.Parts.{assumed, run, BreaksBeside, HoldsBeside}
 use Rattle.play.specs.Claims.{BaseSays, StepSays}
 use Rattle.play.proofs.Runs.{played, passed}
 
@@ -21,36 +21,25 @@ module _ {Pos Joint : Type 0} (G : Game Pos Joint) where
   pub base_true : Joint → (qs : List Property) (p : Property) → HoldsBeside G Base qs p → TrueAt G p G.initial
   base_true any qs p base σ c =
       let r = played G any (degree p) σ c in
-      elim (cases_Bool (satisfied G p G.initial (behind G σ))) [
-        | inl e ↦ e
-        | inr e ↦ absurd (base (record { start = G.initial; joints = r.joints }) (record {
-          is_play = record { starts = refl; levels = r.levels };
-          legally = r.legally;
-          against = rw r.runs e;
-        }))
-      ]
+      true_from_ne_false (satisfied G p G.initial (behind G σ))
+      (λ e. base (record { start = G.initial; joints = r.joints })
+      (record { is_play = record { starts = refl; levels = r.levels }; legally = r.legally; against = rw r.runs e }))
 
   pub true_base : (qs : List Property) (p : Property) → TrueAt G p G.initial → HoldsBeside G Base qs p
   true_base qs p at_start play b =
-      let l : run_legal G G.initial play.joints ≡ true = subst (λ S. run_legal G S play.joints ≡ true) b.is_play.starts b.legally in
-      let f : satisfied G p G.initial (run G G.initial play.joints) ≡ false =
-      subst (λ S. satisfied G p S (run G S play.joints) ≡ false) b.is_play.starts b.against in
-      let r = passed G play.joints G.initial l in
-      both_ways (satisfied G p G.initial (run G G.initial play.joints)) f
-      (rw r.runs at (at_start r.way (rw b.is_play.levels at r.whole)))
+      let S = play.start in
+      let r = passed G play.joints S b.legally in
+      let true_here : TrueAt G p S = rw b.is_play.starts at_start in
+      both_ways (satisfied G p S (run G S play.joints)) b.against
+      (rw r.runs at (true_here r.way (rw b.is_play.levels at r.whole)))
 
   -- the step from one position: only plays that start there matter
   pub step_true : Joint → (qs : List Property) (p : Property) (S : Pos) → ((μ : List Joint) → ¬ BreaksBeside G Step qs p (record { start = S; joints = μ })) → StepsFrom qs p S
   step_true any qs p S step σ c here beside =
       let r = played G any (degree p + 1) σ c in
-      elim (cases_Bool (satisfied G (following p) S (behind G σ))) [
-        | inl e ↦ e
-        | inr e ↦ absurd (step r.joints (record {
-          is_play = record { starts = tt; levels = r.levels };
-          legally = r.legally;
-          against = rw r.runs (here, beside, e);
-        }))
-      ]
+      true_from_ne_false (satisfied G (following p) S (behind G σ))
+      (λ e. step r.joints
+      (record { is_play = record { starts = tt; levels = r.levels }; legally = r.legally; against = rw r.runs (here, beside, e) }))
 
   pub true_step : (qs : List Property) (p : Property) → ((S : Pos) → StepsFrom qs p S) → HoldsBeside G Step qs p
   true_step qs p steps play b =

@@ -1,8 +1,9 @@
 -- A property looks no further ahead than its degree: what is true at a position is satisfied by longer complete sequences.
 use Rattle.std.proofs.Common.{◌≡◌, ℕ, zero, suc, ◌+◌, ◌≤◌, true, false, not, ◌&&◌, List, [], ◌∷◌, take, sym, refl, ap, ◌∙◌, ap₂, inl, inr, arith}
+use Rattle.std.proofs.lemmas.Bool.{both_ways}
 use Rattle.evaluate.specs.Positions.{Game}
 use Rattle.property.specs.Trees.{Properties, atom, isn't, all, following, none, more, degree, degrees}
-use Rattle.play.specs.Sequences.{ended, Sequence, stop, move, behind, Complete}
+use Rattle.play.specs.Sequences.{ended, Sequence, stop, move, moves, reached, behind, Complete}
 use Rattle.play.specs.Truth.{satisfied, all_satisfied}
 use Rattle.play.specs.Claims.{PrefixesDecide, LongerSequencesSatisfy}
 
@@ -30,6 +31,11 @@ module _ {Pos Joint : Type 0} (G : Game Pos Joint) where
     complete_back (inl c) = inl (omega arith)
     complete_back (inr c) = inr (omega arith, c.1)
 
+  -- a complete sequence that ends where play has not ended has all its moves
+  pub all_moves : {S : Pos} (n : ℕ) (σ : Sequence G S) → ended G (reached G σ) ≡ false → Complete G n σ → moves G σ ≡ n
+  all_moves n σ e (inl c) = c
+  all_moves n σ e (inr c) = absurd (both_ways (ended G (reached G σ)) e c.1)
+
   -- the first d moves of a sequence
   cut : ℕ → {S : Pos} → Sequence G S → Sequence G S
   cut zero σ = stop
@@ -38,8 +44,7 @@ module _ {Pos Joint : Type 0} (G : Game Pos Joint) where
 
   cut_behind : (d : ℕ) {S : Pos} (σ : Sequence G S) → behind G (cut d σ) ≡ take d (behind G σ)
   unfolding cut
-  cut_behind zero stop = refl
-  cut_behind zero (move A t l σ) = refl
+  cut_behind zero σ = refl
   cut_behind (suc d) stop = refl
   cut_behind (suc d) (move {S = S} A t l σ) = ap (λ x. G.next S A ∷ x) (cut_behind d σ)
 

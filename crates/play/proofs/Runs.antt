@@ -1,6 +1,6 @@
 -- The runs of plays with legal moves are the complete sequences.
 use Rattle.std.proofs.Common.{◌≡◌, ℕ, zero, suc, true, List, [], ◌∷◌, length, replicate, refl, ap, inl, inr, arith}
-use lib.ListN.{length-replicate}
+use Rattle.std.proofs.lemmas.List.{length-replicate}
 use Rattle.std.proofs.lemmas.Bool.{cases_Bool, and_parts}
 use Rattle.evaluate.specs.Positions.{Game}
 use Rattle.play.specs.Sequences.{ended, Sequence, stop, move, behind, Complete}
@@ -18,8 +18,7 @@ module _ {Pos Joint : Type 0} (G : Game Pos Joint) where
   -- levels past the end of play are filled with any joint move
   pub played : Joint → (n : ℕ) {S : Pos} (σ : Sequence G S) → Complete G n σ → Played n σ
   played any zero stop c = record { joints = []; levels = refl; legally = refl; runs = refl }
-  played any zero (move A t l σ) (inl e) = absurd (omega arith)
-  played any zero (move A t l σ) (inr h) = absurd (omega arith)
+  played any zero (move A t l σ) c = absurd (omega arith)
   played any (suc n) stop (inl e) = absurd (omega arith)
   played any (suc n) stop (inr h) = record {
     joints = any ∷ replicate n any;

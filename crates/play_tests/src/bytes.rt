@@ -7,17 +7,11 @@ use rules::opened::Rules;
 use rules::opening::open;
 use std::alloc::Global;
 use std::test::Fail;
-
-const FIRST: [u16; 48] = [
-    1, 2, 1, 9, 4, 2, 2, 0, 2, 0, 0, 0, 0, 1, 1, 1, 1, 1, 2, 0, 1, 0, 0, 1, 0, 1, 0, 3, 1, 0, 4, 1,
-    0, 0, 0, 1, 0, 2, 0, 0, 0, 0, 5, 0, 0, 6, 0, 0,
-];
+use worked::files::FIRST;
+use worked::words::bytes_of;
 
 fn opened(heap: Global) -> Result<Rules, Fail> {
-    let mut bytes = Vec::new(heap);
-    for word in FIRST {
-        bytes.extend_from_slice(&word.to_be_bytes())?;
-    }
+    let bytes = bytes_of(heap, &FIRST)?;
     match open(heap, bytes.as_slice()) {
         Ok(rules) => Ok(rules),
         Err(_) => Err(Fail::new("the worked rule file is refused")),

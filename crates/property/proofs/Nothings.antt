@@ -1,5 +1,5 @@
 -- All of nothing is a property.
-use Rattle.std.proofs.Common.{◌≡◌, ℕ, ◌<◌, ◌≤◌, true, List, [], ◌∷◌, length, refl, sym, subst, arith}
+use Rattle.std.proofs.Common.{◌≡◌, ℕ, ◌<◌, ◌≤◌, true, List, length, refl, sym, subst, arith}
 use Rattle.property.specs.declared.records.Record.{Record}
 use Rattle.property.specs.Degrees.{degree_of}
 use Rattle.property.specs.Linked.{Linked, record_leads}

@@ -4,15 +4,13 @@ ghost use Rattle.property.specs.Linked.{Linked};
 
 use crate::records::{Formula, Record};
 
-// The degrees of a record: its own, which is the most followings on a path from it, and the greatest along the chain from it.
-#[derive(Clone, Copy)]
+// The degrees of a record: its own, which is the most followings on a path from it, and the greatest along the chain from it. By
+// default those of no record, which are 0.
+#[derive(Clone, Copy, Default)]
 pub struct Degrees {
     pub own: u8,
     pub chain: u8,
 }
-
-// No record: no followings.
-const NONE: Degrees = Degrees { own: 0, chain: 0 };
 
 impl Record {
     // By the degrees where its value leads and those at its next.
@@ -40,7 +38,7 @@ pub fn whole_degree(records: &[Record]) -> u8
     requires few { length records.now ≤ 64 }
     ensures { result ≡ degree_of records.now }
 {
-    let mut degrees = [NONE; 65];
+    let mut degrees = [Degrees::default(); 65];
     for (i, record) in records.iter().enumerate().rev() {
         let operand = degrees[usize::from(record.formula.operand())];
         let next = degrees[usize::from(record.next)];

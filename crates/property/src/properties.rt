@@ -7,6 +7,7 @@ use crate::records::Record;
 use arrayvec::ArrayVec;
 
 // A property that was read. Its invariant: it has 1 to 64 records, their links lead later, and its degree is known and at most 3.
+// Records are told by number and not boxed, since operands share them and reading allocates nothing.
 #[derive(Drop)]
 pub struct Property {
     pub(crate) records: ArrayVec<Record, 64>,

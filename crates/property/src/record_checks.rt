@@ -16,10 +16,7 @@ use rules::records::Mark;
 fn is_still(mark: Mark) -> bool
     ensures { result ≡ still mark }
 {
-    match mark {
-        Mark::Still | Mark::Initial => true,
-        Mark::Dependent => false,
-    }
+    !matches!(mark, Mark::Dependent)
 }
 
 // Whether this is the number of an atom to which moves do not matter.

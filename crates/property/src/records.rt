@@ -1,7 +1,10 @@
 ghost use Rattle.std.specs.Prelude.{◌≡◌};
 ghost use Rattle.property.specs.Typed.{operand_of, unused};
 
+use rules::walk::Linking;
+
 // The records of a property. They are numbered from 1; a link is such a number and leads to a later record, and 0 is no record.
+// It is no `Option`: degrees are looked up by link, and those of no record stand at 0.
 
 #[derive(Clone, Copy, PartialEq, Eq, Debug)]
 pub enum Formula {
@@ -31,6 +34,16 @@ impl Default for Record {
             formula: Formula::Atom(0),
             next: 0,
         }
+    }
+}
+
+impl Linking for Record {
+    ghost next = { λ r. r.next };
+
+    ghost none = { unused };
+
+    fn next(&self) -> u16 {
+        self.next
     }
 }
 

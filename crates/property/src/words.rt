@@ -43,7 +43,7 @@ impl Entry<'_> {
         3 * (usize::from(self.number) - 1) + i
     }
 
-    // Word i of the record: its kind, its value, its next.
+    // Word i of the record: its kind, its value, its next. They go by index, since a fault names the place of one.
     pub fn word(self, i: usize) -> u16
         requires { i < 3 }
         ensures { result ≡ word_at self.entry.text.bytes.now (record_word self.entry.number i) }

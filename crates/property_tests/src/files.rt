@@ -5,23 +5,12 @@ use rules::opening::open;
 use std::alloc::{AllocError, Global};
 use std::process::Abort;
 use std::test::Fail;
+use worked::files::FIRST;
+use worked::words::bytes_of;
 
-// Two fluents, one role with two moves, nine atoms: 1 and 2 are fluents, 3 and 4 next, 5 and 6 does, 7 and 8 legal, 9 is terminal.
-const RULE_FILE: [u16; 48] = [
-    1, 2, 1, 9, 4, 2, 2, 0, 2, 0, 0, 0, 0, 1, 1, 1, 1, 1, 2, 0, 1, 0, 0, 1, 0, 1, 0, 3, 1, 0, 4, 1,
-    0, 0, 0, 1, 0, 2, 0, 0, 0, 0, 5, 0, 0, 6, 0, 0,
-];
-
-pub fn words(heap: Global, words: &[u16]) -> Result<Vec<u8>, AllocError> {
-    let mut bytes = Vec::new(heap);
-    for word in words {
-        bytes.extend_from_slice(&word.to_be_bytes())?;
-    }
-    Ok(bytes)
-}
-
+// On the first worked rule file.
 pub fn open_rules(heap: Global) -> Result<Rules, Refusal> {
-    let bytes = words(heap, &RULE_FILE)?;
+    let bytes = bytes_of(heap, &FIRST)?;
     open(heap, bytes.as_slice())
 }
 
@@ -43,7 +32,7 @@ pub struct Row {
 pub fn check_rows(rt: &impl Abort, heap: Global, rows: &[Row]) -> Result<(), Fail> {
     let rules = open_rules(heap)?;
     for row in rows {
-        let bytes = words(heap, row.file)?;
+        let bytes = bytes_of(heap, row.file)?;
         assert_eq!(rt; answer(&rules, bytes.as_slice()), row.answer);
     }
     Ok(())

@@ -1,7 +1,8 @@
-use crate::files::{answer, check_rows, open_rules, refuses, takes, words};
+use crate::files::{answer, check_rows, open_rules, refuses, takes};
 use property::reading::read;
 use property::records::{Formula, Record};
 use std::test::Fail;
+use worked::words::bytes_of;
 
 #[test]
 fn followings(rt: HostRuntime) -> Result<(), Fail> {
@@ -62,7 +63,7 @@ fn off_every_path(rt: HostRuntime) -> Result<(), Fail> {
 fn typed(rt: HostRuntime) -> Result<(), Fail> {
     let heap = rt.alloc();
     let rules = open_rules(heap)?;
-    let bytes = words(heap, &[2, 2, 0, 3, 3, 0, 1, 1, 4, 1, 2, 0])?;
+    let bytes = bytes_of(heap, &[2, 2, 0, 3, 3, 0, 1, 1, 4, 1, 2, 0])?;
     let property = read(&rules, bytes.as_slice())?;
     let expected = [
         Record {

@@ -1,4 +1,5 @@
 pub mod Alike
+pub mod Along
 pub mod Built
 pub mod Chains
 pub mod Downs

@@ -11,3 +11,4 @@ pub mod Summaries
 pub mod Typed
 pub mod Taken
 pub mod Opens
+pub mod Walks

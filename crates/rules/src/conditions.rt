@@ -23,6 +23,8 @@ impl Summary {
     }
 }
 
+// Records are told by number here: a row would bring a file of its own, and each function would need that it is this one. Marks are
+// words here, as in the statement of the condition.
 impl LinkedFile<'_> {
     // What a literal asks of its head.
     fn literal_summary(self, literal: u16) -> Summary
@@ -70,6 +72,7 @@ impl LinkedFile<'_> {
     pub fn check_conditions(self) -> Result<(), Fault>
         ensures { let f = self.entry.file in result ≡ verdict (first (head_fault f.layout (held f)) (range_with_len 1 f.layout.atoms)) tt }
     {
+        // arrays of the largest size, since the check of a file allocates nothing
         let mut bodies = [Summary::default(); 8001];
         self.sum_up_bodies(&mut bodies);
         let mut heads = [Summary::default(); 2049];

@@ -63,6 +63,7 @@ pub enum Refusal {
     Memory,
 }
 
+// Conversions are written out, since clauses name the error that a `?` makes.
 impl From<Fault> for Refusal {
     ghost from_gives = { λ e r. r ≡ Faulty e };
 

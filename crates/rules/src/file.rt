@@ -4,7 +4,7 @@ ghost use Rattle.rules.specs.Linked.{Limited};
 
 use crate::layout::Layout;
 
-// The bytes of a file that is as long as its header says, with counts inside their limits.
+// The bytes of a file that is as long as its header says, with counts inside their limits; so no place in it is large.
 #[derive(Clone, Copy)]
 pub struct File<'a> {
     pub bytes: &'a [u8],

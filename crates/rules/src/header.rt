@@ -35,7 +35,7 @@ fn check_counts(bytes: &[u8]) -> Result<(), Fault>
     check_count(bytes, 5, 0, 8000)
 }
 
-// How many moves a role has, counted from 0.
+// How many moves a role has, counted from 0. One function with `check_count` would be told the limits, the fault and what to answer.
 fn move_count(bytes: &[u8], role: u16) -> Result<u16, Fault>
     requires { 2 * (6 + role) + 1 < length bytes.now }
     ensures value { result ≡ verdict (unless (inside 1 32 (word_at bytes.now (6 + role))) (MoveCount (2 * (6 + role)))) (word_at bytes.now (6 + role)) }
@@ -112,6 +112,6 @@ impl Layout {
     fn least_atoms(self) -> usize
         ensures { result ≡ 2 * self.fluents + 2 * self.moves + 1 }
     {
-        2 * usize::from(self.fluents) + 2 * usize::from(self.moves) + 1
+        self.terminal() + 1
     }
 }

@@ -1,4 +1,4 @@
-ghost use Rattle.std.specs.Prelude.{◌≡◌, ◌+◌, ◌≤◌};
+ghost use Rattle.std.specs.Prelude.{◌≡◌, ◌+◌, ◌*◌, ◌≤◌};
 ghost use Rattle.rules.specs.Kinds.{kind_of};
 
 use crate::layout::Layout;
@@ -21,6 +21,13 @@ pub enum Kind {
 }
 
 impl Layout {
+    // Where terminal stands among the atoms, counted from 0: behind the legal atoms.
+    pub fn terminal(self) -> usize
+        ensures { result ≡ 2 * self.fluents + 2 * self.moves }
+    {
+        2 * usize::from(self.fluents) + 2 * usize::from(self.moves)
+    }
+
     // The kind of the atom with this number, counted from 1.
     pub fn kind(self, atom: u16) -> Kind
         ensures { result ≡ kind_of self.fluents self.moves atom }

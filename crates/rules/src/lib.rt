@@ -4,7 +4,8 @@
 // order with its place, or none. `open` builds the typed value of a file that passed; only that may want memory.
 // Each kind of record says where its records stand (`Placed`), and how one is read and checked (`Record`); rules and literals are
 // also followed along their chains (`Chained`). Once all records passed, each atom is checked as a head (`Head`).
-// `Rules` carries as an invariant all that was checked, so nothing above it checks an index, a stratum or a mark again.
+// `Rules` carries as an invariant all that was checked, so nothing above it checks an index, a stratum or a mark again; a
+// `Walk` follows a chain of typed records.
 #![tactic(auto)]
 
 mod chain;
@@ -27,4 +28,5 @@ mod record_checks;
 pub mod records;
 mod rows;
 mod summaries;
+pub mod walk;
 pub mod words;

@@ -4,7 +4,8 @@ ghost use Rattle.rules.specs.Typed.{tables_from, Shaped, Counted, Enough, Moving
 use crate::layout::Layout;
 use crate::records::{Atom, Literal, Rule};
 
-// A rule file that was taken. Its invariant is that every check passes on what it holds.
+// A rule file that was taken. Its invariant is that every check passes on what it holds. Records are told by number and not boxed, since
+// chains share their ends.
 #[derive(Drop)]
 pub struct Rules {
     pub(crate) layout: Layout,

@@ -42,6 +42,7 @@ impl File<'_> {
     pub fn records<R: Record>(self, heap: Global) -> Result<Vec<R>, AllocError>
         ensures { IfOk result (λ v. v.items ≡ map (R.record_in (held self.entry)) (range_with_len 1 (R.count self.entry.layout))) }
     {
+        // After `map` and `collect` over an inclusive range nothing is known of the items.
         let mut records = Vec::new(heap);
         for number in 1..=R::count(self.layout) {
             records.push(R::read(&self.row(number)))?;

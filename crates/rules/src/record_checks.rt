@@ -10,6 +10,7 @@ use crate::record::Record;
 use crate::records::{Atom, Literal, Mark, Rule, Sign};
 use crate::rows::Row;
 
+// Any other word reads as the last case; a file that passed its checks has none.
 impl From<u16> for Mark {
     ghost from_gives = { λ word mark. mark ≡ mark_of word };
 
@@ -69,10 +70,7 @@ impl Kind {
     fn has_literals(self) -> bool
         ensures { result ≡ not (is_next self) }
     {
-        match self {
-            Kind::Next => false,
-            Kind::Fluent | Kind::Does | Kind::Legal | Kind::Terminal | Kind::Further => true,
-        }
+        !matches!(self, Kind::Next)
     }
 }
 

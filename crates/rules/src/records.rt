@@ -1,4 +1,5 @@
 // The records of a rule file. Records of a kind are numbered from 1; a link is such a number, and 0 ends a chain.
+// It is no `Option`: summaries of chains are looked up by link, and that of the empty chain stands at 0.
 
 // Whether moves matter to an atom, and which fluents are true at the start.
 #[derive(Clone, Copy)]

@@ -1,26 +1,7 @@
-// Files to try: the worked ones, and plain ones of any size.
+// Plain rule files of any size, and words put into one.
 use rules::checks::check;
 use std::alloc::{AllocError, Global};
-
-// Two fluents, live and old; one role with the moves fresh and late; a fresh tick makes the price live, a late one old.
-pub const FIRST: [u16; 48] = [
-    1, 2, 1, 9, 4, 2, 2, 0, 2, 0, 0, 0, 0, 1, 1, 1, 1, 1, 2, 0, 1, 0, 0, 1, 0, 1, 0, 3, 1, 0, 4, 1,
-    0, 0, 0, 1, 0, 2, 0, 0, 0, 0, 5, 0, 0, 6, 0, 0,
-];
-
-// The same with one more rule: a price that is live and not old stays live.
-pub const SECOND: [u16; 56] = [
-    1, 2, 1, 9, 5, 4, 2, 0, 2, 0, 0, 0, 0, 1, 1, 1, 1, 1, 2, 0, 1, 0, 0, 1, 0, 1, 0, 3, 1, 0, 4, 1,
-    0, 0, 5, 1, 0, 2, 0, 0, 0, 0, 0, 3, 5, 0, 0, 6, 0, 0, 1, 0, 4, 2, 1, 0,
-];
-
-pub fn bytes_of(heap: Global, words: &[u16]) -> Result<Vec<u8>, AllocError> {
-    let mut bytes = Vec::new(heap);
-    for word in words {
-        bytes.extend_from_slice(&word.to_be_bytes())?;
-    }
-    Ok(bytes)
-}
+use worked::words::bytes_of;
 
 // Writes a word at an offset.
 pub fn put(bytes: &mut Vec<u8>, place: usize, word: u16) {

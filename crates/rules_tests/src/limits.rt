@@ -1,6 +1,8 @@
 // Lengths, and each count at its limits.
-use crate::files::{FIRST, SMALL, Size, answer, bytes_of, put};
+use crate::files::{SMALL, Size, answer, put};
 use std::test::Fail;
+use worked::files::FIRST;
+use worked::words::bytes_of;
 
 #[test]
 fn lengths(rt: HostRuntime) -> Result<(), Fail> {

@@ -1,11 +1,13 @@
 // One word changed in a worked file, and what comes of it.
-use crate::files::{FIRST, SECOND, answer, bytes_of, put};
+use crate::files::{answer, put};
 use rules::faults::Refusal;
 use rules::opened::Rules;
 use rules::opening::open;
 use rules::records::{Mark, Sign};
 use std::process::Abort;
 use std::test::Fail;
+use worked::files::{FIRST, SECOND};
+use worked::words::bytes_of;
 
 #[test]
 fn worked_files_are_taken(rt: HostRuntime) -> Result<(), Fail> {

@@ -1,24 +1,22 @@
-ghost use Rattle.std.specs.Prelude.{◌≡◌, ◌+◌, ◌^◌, ◌<◌};
+ghost use Rattle.std.specs.Prelude.{◌≡◌, ◌+◌, ◌<◌};
 
 // An open case of a walk: the input that its split settles, the branch that is taken, and the number of the record that splits, from 0.
 #[derive(Clone, Copy, PartialEq, Eq, Debug, Default)]
 pub struct Case {
-    pub input: u16,
+    pub input: usize,
     pub branch: u16,
-    pub number: u16,
+    pub number: usize,
 }
 
 impl Case {
     // A split's first branch.
     pub(crate) fn first(number: usize, input: usize) -> Case
-        requires number { number < 2 ^ 16 }
-        requires input { input < 2 ^ 16 }
         ensures { result ≡ record { input = input; branch = 0; number = number } }
     {
         Case {
-            input: input as u16,
+            input,
             branch: 0,
-            number: number as u16,
+            number,
         }
     }
 

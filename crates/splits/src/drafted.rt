@@ -3,7 +3,8 @@ ghost use Rattle.splits.specs.Faults.{too_small_report};
 
 use rules::faults::Report;
 
-// What came of a draft: a plain file of so many records, or a settled case that is not closed.
+// What came of a draft: a plain file of so many records, or a settled case that is not closed. No `Option`: a play that is shown is as
+// much an answer as a file.
 #[derive(Clone, Copy, PartialEq, Eq, Debug)]
 pub enum Drafted {
     File(usize),

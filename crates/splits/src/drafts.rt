@@ -67,6 +67,7 @@ pub fn draft<J: Judge>(
     let first = shape.first_input();
     let end = shape.entries();
     let mut splits = Stack::new(cases);
+    // A loop with its state, as in a walk: it goes back into an outer split as often as it goes on.
     let mut at: usize = 0;
     // the record whose subtree has just ended
     let mut over: Option<usize> = None;

@@ -41,7 +41,7 @@ impl Shape<'_> {
         requires { case.branch + 1 < 2 ^ 16 }
         ensures { result ≡ nat_le (branch_count (inputs self.entry) case.input) (case.branch + 1) }
     {
-        case.branch + 1 >= u16::from(self.branches(usize::from(case.input)))
+        case.branch + 1 >= u16::from(self.branches(case.input))
     }
 
     // The entry of a role's choice at a level.

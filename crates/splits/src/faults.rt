@@ -21,6 +21,7 @@ pub enum WalkFault {
     LeftOver(usize),
 }
 
+// Conversions are written out, since clauses name the error that a `?` makes.
 impl From<RecordFault> for WalkFault {
     ghost from_gives = { λ e r. r ≡ OfRecord e };
 

@@ -11,7 +11,7 @@ pub struct Place<'a> {
     ghost within: { 8 * i + 8 ≤ length bytes.now },
 }
 
-// Its words.
+// Its words. One reader with the word's index as a parameter would put numbers in the place of their names.
 impl Place<'_> {
     pub(crate) fn kind(self) -> u16
         ensures { result ≡ word self.entry.bytes.now (8 * self.entry.i) }

@@ -18,6 +18,7 @@ pub struct Situation<'a> {
 }
 
 impl Situation<'_> {
+    // The record at a place, in this case. The file has a number for each kind.
     pub fn read(self, place: Place) -> Result<Record, RecordFault>
         ensures { result ≡ record_at (inputs self.entry.shape) place.entry.bytes.now self.entry.settings.now place.entry.i }
     {

@@ -28,15 +28,6 @@ impl<'a> Stack<'a> {
         self.depth
     }
 
-    fn push(&mut self, case: Case)
-        requires { length (splits self.old) < length self.old.cases.now }
-        ensures pushed { splits self.new ≡ case ∷ splits self.old }
-        ensures room { length self.new.cases.now ≡ length self.old.cases.now }
-    {
-        self.cases[self.depth] = case;
-        self.depth += 1;
-    }
-
     // Goes into a case of a split: it settles the input to the branch.
     pub(crate) fn enter(&mut self, case: Case, settings: &mut [u8])
         requires room { length (splits self.old) < length self.old.cases.now }
@@ -46,8 +37,9 @@ impl<'a> Stack<'a> {
         ensures room { length self.new.cases.now ≡ length self.old.cases.now }
         ensures settled { settings.new ≡ slice_set settings.old case.input (case.branch + 1) }
     {
-        self.push(case);
-        settings[usize::from(case.input)] = case.branch as u8 + 1;
+        self.cases[self.depth] = case;
+        self.depth += 1;
+        settings[case.input] = case.branch as u8 + 1;
     }
 
     // Behind a branch that has ended: goes into the next one, or leaves the split open again and answers its record.
@@ -61,8 +53,8 @@ impl<'a> Stack<'a> {
         ensures over { result ≡ (if last then Some top.number else None) }
     {
         if last {
-            settings[usize::from(top.input)] = 0;
-            Some(usize::from(top.number))
+            settings[top.input] = 0;
+            Some(top.number)
         } else {
             self.enter(top.next(), settings);
             None

@@ -56,6 +56,7 @@ pub fn walk<J: Judge>(
         return Err(WalkFault::Length(bytes.len()));
     }
     let records = bytes.len() / 8;
+    // A loop with its state: a walk goes back into an outer split as often as it goes on, so no range or chain has its steps.
     let mut splits = Stack::new(cases);
     let mut at: usize = 0;
     // the record whose subtree has just ended

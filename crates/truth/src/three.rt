@@ -83,6 +83,7 @@ impl TruthForm for Three {
         }
     }
 
+    // A table of its own, which reads plainer than `and` between two turns.
     fn or(self, other: Three) -> Three
         ensures lawful { three_means result ≡ or_each (three_means self) (three_means other) }
         ensures exact { result ≡ three_or self other }

@@ -8,7 +8,7 @@ use crate::form::TruthForm;
 use crate::wide::Wide;
 
 impl Wide {
-    // Settled in every world: yes where the mask has its bit set, else no.
+    // Settled in every world: yes where the mask has its bit set, else no. A `From<u64>` would not say that the number is a mask.
     pub fn settled(mask: u64) -> Wide
         ensures exact { wide_means result ≡ by_mask mask }
         ensures field { result.yes ≡ mask }

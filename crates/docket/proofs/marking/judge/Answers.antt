@@ -62,7 +62,7 @@ returns c G reads w lt play S =
     let H = horizon_of part (degree p) in
     let bs = c.args.plays.bytes.now in
     let count = c.args.plays.count in
-    let vs = c.put_plays.new.values in
+    let vs = c.put.new.values in
     let n = length (atoms_of R) in
     let d = c.evaluate.result in
     let start = look (kleene_each Place) (map means (row n vs 0)) in
@@ -71,9 +71,9 @@ returns c G reads w lt play S =
     let few : H ≤ 4 = omega (arith, few_levels part c.degree.result c.degree.ensures.bound, c.horizon.ensures, c.from-horizon.ensures) in
     let room : 3392 ≤ length vs = omega arith in
     let starts : (f : ℕ) → f < fluents R → (u : Place) → start f u ≡ just (ltb u.at count && byte_is bs f 1 u.at) = λ f h u.
-    ap (λ (m : Meaning Place). m u) (look_row vs n 0 f d (omega (arith, enough R)) (omega (arith, few_atoms R)) ∙ c.put_plays.ensures.start f d h) in
+    ap (λ (m : Meaning Place). m u) (look_row vs n 0 f d (omega (arith, enough R)) (omega (arith, few_atoms R)) ∙ c.put.ensures.start f d h) in
     let moves : (j k : ℕ) → j < H → k < choices R → (u : Place) → does j k u ≡ just (ltb u.at count && byte_is bs (move_byte R j (choice_of (moves_of R) k).role) (choice_of (moves_of R) k).number u.at) = λ j k h l u.
-    ap (λ (m : Meaning Place). m u) (look_row vs n j (does_at R k) d (does_small R k l) (omega (arith, few_atoms R)) ∙ c.put_plays.ensures.moves j k d (omega arith) l) in
+    ap (λ (m : Meaning Place). m u) (look_row vs n j (does_at R k) d (does_small R k l) (omega (arith, few_atoms R)) ∙ c.put.ensures.moves j k d (omega arith) l) in
     let here : ltb w.at count ≡ true = lt-ltb w.at count lt in
     ap (λ (m : Meaning Place). m w) (c.evaluate.ensures.value ∙ ap (λ l. part_value (kleene_each Place) R (at_level (kleene_each Place) R start does) part (map tree_of l) p) c.properties.ensures)
     ∙ exact kleene_laws R G reads w start does part (trees_of D) p (all_still D) (records_are_still R (records_of c.args.property.now) c.requires.fits) play S.levels (

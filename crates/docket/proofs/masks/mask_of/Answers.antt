@@ -1,13 +1,7 @@
 use Rattle.std.proofs.Common.{◌≡◌, ℕ, ◌+◌, ◌-◌, ◌*◌, sym, ap, ◌∙◌, subst, arith}
 use Rattle.docket.specs.Plays.{flag}
-use Rattle.docket.proofs.Bitmaps.{Masked, small_starts, small_goes, small_fits, masked_starts, masked_goes, masked_ends}
+use Rattle.docket.proofs.Bitmaps.{Masked, small_goes, masked_goes, masked_ends}
 use Rattle.docket.proofs.masks.mask_of.Goals as goal
-
-pub loop-k-init : goal.loop-k-init
-loop-k-init g c = (small_starts c.args.count, λ p all. masked_starts p c.args.count)
-
-pub with_bit-mask-requires : goal.with_bit-mask-requires
-with_bit-mask-requires g c = small_fits c.args.count c.loop-k.k c.loop-k.mask c.loop-k-test.true c.requires.few c.loop-k.invariant.0
 
 pub loop-k-preserved : goal.loop-k-preserved
 loop-k-preserved g c =

@@ -1,56 +1,42 @@
-use Rattle.std.proofs.Common.{◌≡◌, ◌-◌, ◌<◌, ◌≤◌, ◌∷◌, map, length, get_or, sym, ap, ◌∙◌, subst, arith}
+use Rattle.std.proofs.Common.{◌≡◌, map, sym, ap, ◌∙◌, subst, ap₂}
 use mathlib.Core.Path.{fun_ext}
-use Rattle.rules.specs.declared.records.Rule.{Rule}
 use Rattle.rules.specs.Opens.{rules_of}
-use Rattle.rules.specs.Typed.{no_rule}
-use Rattle.rules.proofs.Invariant.{rules_linked}
-use Rattle.evaluate.specs.Program.{body_from, bodies_from}
+use Rattle.evaluate.specs.Lists.{Each}
 use Rattle.evaluate.specs.Evaluate.{look, any_of}
 use Rattle.evaluate.specs.Meanings.{meanings}
-use Rattle.evaluate.proofs.Chains.{bodies_go, bodies_end}
-use Rattle.evaluate.proofs.Looks.{record_read}
+use Rattle.evaluate.proofs.Walked.{Begins, rules_along, bodies, along_begins, along_bodies}
 use Rattle.evaluate.proofs.bodies.any_body.Goals as goal
+
+pub loop-r-init : goal.loop-r-init
+loop-r-init g c =
+    let t = g.T.TruthForm in
+    let o = meanings t.neg t.conj t.disj in
+    let at = look o (map t.means c.args.values.now) in
+    let R = c.args.rules.now in
+    let k = c.args.first in
+    let from = c.rules_from-r-items in
+    let it = c.into_iter-r-iterator.result in
+    let is : rules_along it.records.now it.at ≡ rules_along (rules_of R) k = rw (sym c.into_iter-r-iterator.ensures.into_iter_gives) at (ap₂ rules_along from.ensures.records from.ensures.from) in (
+      subst (Each (Begins R)) (sym is) (along_begins R k c.requires.first),
+      ap₂ (any_of o at) (fun_ext c.no-any.ensures) (ap (map (bodies R)) is ∙ along_bodies R k),
+    )
 
 pub body-requires : goal.body-requires
 body-requires g c =
     let R = c.args.rules.now in
-    let k = c.loop-at.at in
-    let p : 0 < k = omega arith in
-    let is = record_read no_rule c.rules.result.now (rules_of R) c.from.result k c.rules.ensures c.from.ensures in
-    record {
-      first = subst (λ (r : Rule). r.first ≤ R.layout.literals) (sym is) ((rules_linked R).first_literals k p c.loop-at.invariant.0);
-      values = c.requires.values;
-    }
+    record { first = (subst (Each (Begins R)) c.in-Some.ensures.steps c.loop-r.invariant.0).0; values = c.requires.values }
 
-pub loop-at-init : goal.loop-at-init
-loop-at-init g c =
-    let t = g.T.TruthForm in
-    let o = meanings t.neg t.conj t.disj in
-    let at = look o (map t.means c.args.values.now) in
-    (c.requires.first, ap (λ v. any_of o at v (bodies_from c.args.rules.now c.args.first)) (fun_ext c.no-any.ensures))
-
-pub loop-at-smaller : goal.loop-at-smaller
-loop-at-smaller g c =
-    let R = c.args.rules.now in
-    let k = c.loop-at.at in
-    let p : 0 < k = omega arith in
-    let is = record_read no_rule c.rules.result.now (rules_of R) c.from.result k c.rules.ensures c.from.ensures in
-    let goes = subst (λ (r : Rule). bodies_from R k ≡ body_from R r.first ∷ bodies_from R r.next) (sym is) (bodies_go R k p c.loop-at.invariant.0) in
-    omega (arith, ap length goes)
-
-pub loop-at-preserved : goal.loop-at-preserved
-loop-at-preserved g c =
+pub loop-r-preserved : goal.loop-r-preserved
+loop-r-preserved g c =
     let t = g.T.TruthForm in
     let o = meanings t.neg t.conj t.disj in
     let at = look o (map t.means c.args.values.now) in
     let R = c.args.rules.now in
-    let k = c.loop-at.at in
-    let p : 0 < k = omega arith in
-    let is = record_read no_rule c.rules.result.now (rules_of R) c.from.result k c.rules.ensures c.from.ensures in
-    let goes = subst (λ (r : Rule). bodies_from R k ≡ body_from R r.first ∷ bodies_from R r.next) (sym is) (bodies_go R k p c.loop-at.invariant.0) in (
-      subst (λ (r : Rule). r.next ≤ R.layout.rules) (sym is) ((rules_linked R).next_rules k p c.loop-at.invariant.0).1,
-      ap (λ v. any_of o at v (bodies_from R (get_or c.rules.result.now (c.from.result - 1) no_rule).next)) (c.or-any.ensures ∙ ap (t.disj (t.means c.loop-at.any)) c.body.ensures)
-          ∙ sym (ap (any_of o at (t.means c.loop-at.any)) goes) ∙ c.loop-at.invariant.1,
+    let next = c.next.new.self in
+    let left = rules_along next.records.now next.at in (
+      (subst (Each (Begins R)) c.in-Some.ensures.steps c.loop-r.invariant.0).1,
+      ap (λ v. any_of o at v (map (bodies R) left)) (c.or-any.ensures ∙ ap (t.disj (t.means c.loop-r.any)) c.body.ensures)
+          ∙ sym (ap (λ rs. any_of o at (t.means c.loop-r.any) (map (bodies R) rs)) c.in-Some.ensures.steps) ∙ c.loop-r.invariant.1,
     )
 
 pub returns : goal.returns
@@ -59,4 +45,4 @@ returns g c =
     let o = meanings t.neg t.conj t.disj in
     let at = look o (map t.means c.args.values.now) in
     let R = c.args.rules.now in
-    sym (ap (any_of o at (t.means c.loop-at.any)) (ap (bodies_from R) c.loop-at-test.false ∙ bodies_end R)) ∙ c.loop-at.invariant.1
+    sym (ap (λ rs. any_of o at (t.means c.loop-r.any) (map (bodies R) rs)) c.in-None.ensures.steps.0) ∙ c.loop-r.invariant.1

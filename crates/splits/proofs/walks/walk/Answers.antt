@@ -15,11 +15,6 @@ returns-in_err-split-in-None-clause-answer g c =
     let p = err_from_is_err_and c.from_residual.result c.from_residual.ensures.1 in
     rw (p.1, p.2) (walking_fault (walking_same c.loop-over.invariant.walking refl refl c.in-None.is) _ c.if-at-records.false (sym c.in_err-split-in-None.was ∙ c.read_input.ensures))
 
-pub first-requires-clause-input : goal.first-requires-clause-input
-first-requires-clause-input g c =
-    let r = walking_room (walking_same c.loop-over.invariant.walking refl refl c.in-None.is) c.in-Some-split.input (omega arith) (ap Ok (sym c.in-Some-split.is) ∙ c.in_ok-split-in-None.ensures) in
-    omega (arith, r.0, (proper c.args.shape).fits)
-
 pub enter-requires-clause-room : goal.enter-requires-clause-room
 enter-requires-clause-room g c =
     let r = walking_room (walking_same c.loop-over.invariant.walking refl refl c.in-None.is) c.in-Some-split.input (omega arith) (ap Ok (sym c.in-Some-split.is) ∙ c.in_ok-split-in-None.ensures) in

@@ -12,5 +12,5 @@ invariant-loop-choice g l =
     let t = g.T.TruthForm in
     let o = meanings t.neg t.conj t.disj in
     let R = l.self.rules.now in
-    (L : ℕ → List (t.World → Answers)) → LevelIn t.means R l.self.rows.now L l.level
+    (L : ℕ → List (t.World → Answers)) → LevelIn t.means R l.self.grid.now.values.now L l.level
     → each_move o R L (t.means l.all) l.level (range_with_len l.choice (choices R - l.choice)) ≡ every_move o R L l.level

@@ -10,5 +10,5 @@ invariant-loop-level g l =
     let t = g.T.TruthForm in
     let o = meanings t.neg t.conj t.disj in
     let R = l.self.rules.now in
-    (L : ℕ → List (t.World → Answers)) → LevelsIn t.means R l.self.rows.now L l.horizon
+    (L : ℕ → List (t.World → Answers)) → LevelsIn t.means R l.self.grid.now.values.now L l.horizon
     → legality_from o R L (t.means l.all) (t.means l.over) l.level (l.horizon - l.level) ≡ legality o R L l.horizon

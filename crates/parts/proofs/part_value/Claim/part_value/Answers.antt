@@ -19,10 +19,10 @@ returns g c =
     let p = tree_of c.args.self.property.now in
     record {
       value = λ L levels.
-          c.value_on.ensures L (λ level l.
+          c.value_on.ensures.value L (λ level l.
           let low : level < 5 = omega (arith, horizon_low c.args.self.part (degree p) (low_degree c.args.self.property.now)) in
           ap (λ r. map t.means (row n r level)) f.front ∙ ap (map t.means) (row_before xs n level (few_atoms R) low) ∙ levels level l);
       kept = λ i d h.
-          ap₂ (λ a r. get_or (a ++ (ts ++ r)) i d) f.front (b.back ∙ ap (drop 320) f.back)
+          ap₂ (λ a r. get_or (a ++ (ts ++ r)) i d) (c.value_on.ensures.kept ∙ f.front) (b.back ∙ ap (drop 320) f.back)
           ∙ beside xs ts c.requires (c.value_on.auto.behind ∙ b.front_len) i d h;
     }

@@ -14,6 +14,6 @@ invariant-loop-other g l =
     let self = l.self in
     let docket = self.claim.docket.now in
     let test = λ (q : Property). may_assume l.degree (degree q) in
-    (L : ℕ → List (t.World → Answers)) → LevelsIn t.means self.claim.rules.now self.rows.now L l.horizon
+    (L : ℕ → List (t.World → Answers)) → LevelsIn t.means self.claim.rules.now self.grid.now.values.now L l.horizon
     → rest_value o self.claim.rules.now L test docket l.horizon (t.means l.all) l.other-index
     ≡ rest_value o self.claim.rules.now L test docket l.horizon (t.means l.initial.all) 0

@@ -14,7 +14,7 @@ returns g c L levels =
     let R = self.claim.rules.now in
     let p = tree_of self.claim.property.now in
     let n : c.from-horizon.result ≡ degree p = c.from-horizon.ensures ∙ c.degree.ensures.tree in
-    let lower = subst (LevelsIn t.means R self.rows.now L) (sym n) levels in
+    let lower = subst (LevelsIn t.means R self.grid.now.values.now L) (sym n) levels in
     c.and-2.ensures
     ∙ ap₂ t.conj
     (c.and.ensures ∙ ap₂ t.conj (fun_ext c.yes.ensures) (c.legality-legal.ensures L lower ∙ ap (legality o R L) n))

@@ -21,9 +21,9 @@ returns g c L levels =
     let s : d + 1 ≡ suc d = omega arith in
     let z : h + 1 - 0 ≡ d + 1 = omega arith in
     let l : h + 1 - 1 ≡ d = omega arith in
-    let lower = subst (LevelsIn t.means R self.rows.now L) (sym n) levels in
+    let lower = subst (LevelsIn t.means R self.grid.now.values.now L) (sym n) levels in
     let some : 1 ≤ length c.of.result.records.now = omega (arith, self.claim.property.now.some, ap length e.records) in
-    let filled = c.fill.ensures L (subst (λ r. LevelsIn t.means r.rules.now r.rows.now L (h + 1)) (sym e.run) lower) in
+    let filled = c.fill.ensures L (subst (λ r. LevelsIn t.means r.rules.now r.grid.now.values.now L (h + 1)) (sym e.run) lower) in
     let holds : t.means c.entry-holds.result ≡ value o R L p 0 (d + 1) =
     c.entry-holds.ensures ∙ filled 0 (omega arith) (omega arith) 1 (omega arith) some
     ∙ ap₂ (λ rs k. value o c.of.result.run.now.rules.now L (property_of rs) 0 k) e.records z ∙ ap (λ r. value o r.rules.now L p 0 (d + 1)) e.run in

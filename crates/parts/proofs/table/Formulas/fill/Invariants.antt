@@ -11,6 +11,6 @@ invariant-loop-level g l =
     let run = l.self.run.now in
     record {
       whole : length l.table ≡ 320;
-      filled : (L : ℕ → List (t.World → Answers)) → LevelsIn t.means run.rules.now run.rows.now L l.horizon
+      filled : (L : ℕ → List (t.World → Answers)) → LevelsIn t.means run.rules.now run.grid.now.values.now L l.horizon
           → FilledFrom o t.means run.rules.now l.self.records.now L l.table (l.level + 1) l.horizon;
     }

@@ -1,7 +1,7 @@
 use Rattle.std.proofs.Common.{◌≡◌, ◌+◌, ◌-◌, ◌≤◌, set, ap, ◌∙◌, arith}
 use Rattle.std.proofs.lemmas.List.{length-set}
 use Rattle.evaluate.specs.Meanings.{meanings}
-use Rattle.parts.specs.Tables.{entry_at}
+use Rattle.parts.specs.Tables.{place_in_table}
 use Rattle.parts.proofs.Entries.{other_level, enter_kept, enter_filled}
 use Rattle.parts.proofs.table.Formulas.fill_level.Goals as goal
 
@@ -20,7 +20,7 @@ loop-number-preserved g c =
     let inv = c.loop-number.invariant in
     let ys = set xs c.place_of.result v in
     let within : m ≤ 64 = omega (arith, self.few) in
-    let is : ys ≡ set xs (entry_at k m) v = ap (λ i. set xs i v) c.place_of.ensures.place in
+    let is : ys ≡ set xs (place_in_table k m) v = ap (λ i. set xs i v) c.place_of.ensures.place in
     record {
       whole = length-set xs c.place_of.result v ∙ inv.whole;
       kept = λ j d out. enter_kept xs ys k m v c.loop-number-test.true within is j d out ∙ inv.kept j d out;

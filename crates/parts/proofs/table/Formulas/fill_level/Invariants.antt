@@ -14,7 +14,7 @@ invariant-loop-number g l =
     record {
       whole : length l.table ≡ 320;
       kept : KeptBesideLevel l.level was l.table;
-      filled : (L : ℕ → List (t.World → Answers)) → LevelIn t.means R l.self.run.now.rows.now L l.level
+      filled : (L : ℕ → List (t.World → Answers)) → LevelIn t.means R l.self.run.now.grid.now.values.now L l.level
           → (0 < l.left → FilledBehind o t.means R rs L was (l.level + 1) (l.left - 1) 0)
           → FilledBehind o t.means R rs L l.table l.level l.left l.number;
     }

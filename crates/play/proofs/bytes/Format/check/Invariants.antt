@@ -6,5 +6,5 @@ use Rattle.play.proofs.bytes.Format.check.Given as goal
 
 abbrev pub invariant-loop-j : goal.invariant-loop-j
 invariant-loop-j l =
-    first (byte_fault l.self.rules.now l.self.part l.self.levels l.bytes) (range_with_len l.j (length l.bytes - l.j))
-    ≡ first (byte_fault l.self.rules.now l.self.part l.self.levels l.bytes) (range_with_len 0 (length l.bytes))
+    let fault = byte_fault l.self.rules.now l.self.part l.self.levels l.bytes in
+    first fault (range_with_len l.j (length l.bytes - l.j)) ≡ first fault (range_with_len 0 (length l.bytes))

@@ -13,22 +13,22 @@ use Rattle.docket.proofs.Inputs.{few_fluents, few_roles, roles_are, choices_are,
 use Rattle.evaluate.proofs.Fitting.{enough}
 use Rattle.docket.proofs.Parts.{part_inside, part_outside}
 use borrow.Rule.Slice.PartMut.{put_mid}
-use Rattle.docket.proofs.plays.put_level.Goals as goal
+use Rattle.docket.proofs.plays.Inputs.put_level.Goals as goal
 
 pub loop-c-init : goal.loop-c-init
-loop-c-init c = put_starts means (doing c.args.rules.now c.args.plays.bytes.now c.args.plays.count c.args.level) (λ k. k) _
+loop-c-init c = put_starts means (doing c.args.self.rules.now c.args.self.plays.bytes.now c.args.self.plays.count c.args.level) (λ k. k) _
 
 -- the does atoms of a level are within the values
 within : (c : goal.After-valueitems-in-loop-c-1) → c.args.level * 512 + 2 * c.from-fluents.result + c.from-moves.result ≤ length c.args.values.now
 within c =
-    let R = c.args.rules.now in
+    let R = c.args.self.rules.now in
     let F : c.from-fluents.result ≡ fluents R = c.from-fluents.ensures ∙ ap (λ y. y.fluents) c.layout-layout.ensures in
     let D : c.from-moves.result ≡ choices R = c.from-moves.ensures ∙ ap (λ y. y.moves) c.layout-layout.ensures in
     omega (arith, few_atoms R, enough R, c.requires.room, c.requires.level)
 
 inside : (c : goal.After-struct_known-1) → c.from-fluents.result + c.from.result * c.args.level + c.choice_at-choice.result.role < 96
 inside c =
-    let R = c.args.rules.now in
+    let R = c.args.self.rules.now in
     let k = c.loop-c.c in
     let F : c.from-fluents.result ≡ fluents R = c.from-fluents.ensures ∙ ap (λ y. y.fluents) c.layout-layout.ensures in
     let r : c.from.result ≡ R.layout.roles = c.from.ensures ∙ ap (λ y. y.roles) c.layout-layout.ensures in
@@ -46,9 +46,9 @@ overflow_add-first-in-loop-c c = let h = inside c in omega arith
 
 pub loop-c-preserved : goal.loop-c-preserved
 loop-c-preserved c =
-    let R = c.args.rules.now in
-    let bs = c.args.plays.bytes.now in
-    let n = c.args.plays.count in
+    let R = c.args.self.rules.now in
+    let bs = c.args.self.plays.bytes.now in
+    let n = c.args.self.plays.count in
     let j = c.args.level in
     let k = c.loop-c.c in
     let F : c.from-fluents.result ≡ fluents R = c.from-fluents.ensures ∙ ap (λ y. y.fluents) c.layout-layout.ensures in
@@ -62,7 +62,7 @@ loop-c-preserved c =
 
 pub returns-clause-moves : goal.returns-clause-moves
 returns-clause-moves c =
-    let R = c.args.rules.now in
+    let R = c.args.self.rules.now in
     let a = c.args.level * 512 + 2 * c.from-fluents.result in
     let k = a + c.from-moves.result - a in
     let vs = c.args.values.now in
@@ -79,7 +79,7 @@ returns-clause-moves c =
 
 pub returns-clause-kept : goal.returns-clause-kept
 returns-clause-kept c =
-    let R = c.args.rules.now in
+    let R = c.args.self.rules.now in
     let a = c.args.level * 512 + 2 * c.from-fluents.result in
     let k = a + c.from-moves.result - a in
     let vs = c.args.values.now in

@@ -1,7 +1,7 @@
 use Rattle.std.proofs.Common.{arith}
 use Rattle.std.proofs.lemmas.List.{length-set}
 use Rattle.splits.proofs.Stacks.{length_stack}
-use Rattle.splits.proofs.stack.Stack.push.Goals as goal
+use Rattle.splits.proofs.stack.Stack.enter.Goals as goal
 
 pub invariant_of-self : goal.invariant_of-self
 invariant_of-self c =
