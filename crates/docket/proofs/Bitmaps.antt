@@ -1,8 +1,12 @@
 -- Masks made bit by bit, from the highest down.
-use Rattle.std.proofs.Common.{◌≡◌, ℕ, zero, suc, ◌+◌, ◌-◌, ◌*◌, ◌/◌, ◌%◌, ◌^◌, ◌<◌, Bool, true, false, ◌&&◌, eqb, ltb, sym, refl, subst, ap, ◌∙◌, div-one, arith}
-use Rattle.std.proofs.lemmas.Nat.{pow-add, shr-shr}
-use Rattle.std.proofs.lemmas.Bool.{lt-ltb}
+use Rattle.std.proofs.Common.{◌≡◌, ℕ, zero, suc, ◌+◌, ◌-◌, ◌*◌, ◌/◌, ◌%◌, ◌^◌, ◌<◌, ◌≤◌, Bool, true, false, ◌&&◌, eqb, ltb, sym, refl, subst, ap, ◌∙◌, div-one, arith, pow_mono}
+use Rattle.std.proofs.lemmas.Nat.{pow-add, pow_pos, shr-shr}
+use Rattle.std.proofs.lemmas.Nat.Bits.{bit_at-lt, bit_at-zero, same_from_bits}
+use Rattle.std.proofs.lemmas.Bool.{lt-ltb, le-ltb, eqb-false}
+use Rattle.std.proofs.Math.Nat.{div-lt_iff_lt-mul}
+use Rattle.std.specs.Int.{bit_at}
 use Rattle.truth.specs.Bit.{bit}
+use Rattle.truth.proofs.Bitwise.{bit_zero}
 use Rattle.docket.specs.Plays.{flag}
 
 abbrev odd : ℕ → Bool
@@ -44,6 +48,25 @@ small_goes count n mask b new before h e is o =
 -- the bits from n on are in place, of count
 abbrev pub Masked : (p : ℕ → Bool) (count n mask : ℕ) → Type 0
 Masked p count n mask = (k : ℕ) → bit mask k ≡ ltb (k + n) count && p (k + n)
+
+pub masked_starts : (p : ℕ → Bool) (count : ℕ) → Masked p count count 0
+masked_starts p count k = bit_zero k ∙ sym (ap (λ t. t && p (k + count)) (le-ltb (k + count) count (omega arith)))
+
+-- such a mask has no other bits
+pub masked_small : (p : ℕ → Bool) (count n mask : ℕ) → Masked p count n mask → Small count n mask
+masked_small p count n mask m =
+    let none : mask / 2 ^ (count - n) ≡ 0 = same_from_bits (mask / 2 ^ (count - n)) 0 above in
+    omega (arith, (div-lt_iff_lt-mul {k = 2 ^ (count - n)} {x = mask} {y = 1} (pow_pos (count - n))).0 (omega (arith, none)))
+  where
+    above : (k : ℕ) → bit_at (mask / 2 ^ (count - n)) k ≡ bit_at 0 k
+    above k =
+        let j = count - n + k in
+        let e : bit mask j ≡ false = m j ∙ ap (λ t. t && p (j + n)) (le-ltb (j + n) count (omega arith)) in
+        let z : bit_at mask j ≡ 0 = omega (arith, bit_at-lt mask j, eqb-false (bit_at mask j) 1 e) in
+        ap (λ x. x % 2) (shr-shr mask (count - n) k) ∙ z ∙ sym (bit_at-zero k)
+
+pub masked_fits : (p : ℕ → Bool) (count n mask : ℕ) → 0 < n → count ≤ 64 → Masked p count n mask → mask < 2 ^ 63
+masked_fits p count n mask h few m = omega (arith, masked_small p count n mask m, pow_mono {i = count - n} {j = 63} (omega arith))
 
 pub masked_goes : (p : ℕ → Bool) (count n mask : ℕ) → n < count → Masked p count (n + 1) mask → Masked p count n (2 * mask + flag (p n))
 masked_goes p count n mask h old = goes

@@ -5,7 +5,11 @@ use Rattle.rules.specs.declared.opened.Rules.{Rules}
 use Rattle.rules.specs.Opens.{atoms_of, tables_of}
 use Rattle.rules.proofs.Chains.{chain_none}
 use Rattle.rules.proofs.Invariant.{rules_linked}
-use Rattle.evaluate.specs.Program.{atom_at, rule_at, body_from, bodies_from}
+use Rattle.evaluate.specs.Program.{atom_at, part_of, literal_at, rule_at, body_from, bodies_from}
+
+pub body_ends : (R : Rules) → body_from R 0 ≡ []
+unfolding body_from
+body_ends R = ap (map (λ k. part_of (literal_at R k))) (chain_none (tables_of R).next_literal R.layout.literals)
 
 pub bodies_end : (R : Rules) → bodies_from R 0 ≡ []
 unfolding bodies_from

@@ -81,6 +81,10 @@ module _ {V : Type 0} (o : Ops V) (R : Rules) where
   unfolding evaluated
   evaluated_length vs = up_to_length o (program_of R) 30 vs
 
+  pub level_length : (fluent doing : ℕ → V) → length (level_of o R fluent doing) ≡ length (atoms_of R)
+  unfolding level_of
+  level_length fluent doing = evaluated_length (given o R fluent doing)
+
   -- what is given, by kind
   pub input_fluent : (fluent doing : ℕ → V) (f : ℕ) → f < fluents R → input o R fluent doing f ≡ fluent f
   input_fluent fluent doing f h = cond-true _ _ _ (lt-ltb f (fluents R) h)

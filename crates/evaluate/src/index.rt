@@ -23,7 +23,7 @@ impl Strata {
     pub fn of(heap: Global, rules: &Rules) -> Result<Strata, AllocError>
         ensures { IfOk result (λ strata. SortedBy rules.now strata) }
     {
-        let mut members = Vec::new(heap);
+        let mut members = Vec::with_capacity(heap, 32)?;
         for s in 0..32u16 {
             members.push(gather(heap, rules, s)?)?;
         }

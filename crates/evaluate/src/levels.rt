@@ -85,7 +85,7 @@ impl<'a, T: TruthForm> Grid<'a, T> {
         ensures len { length self.new.values.now ≡ length self.old.values.now }
         ensures lender { self.new.values.ghost_name ≡ self.old.values.ghost_name }
     {
-        rules.evaluate(self.values, 0);
+        self.evaluate(rules, 0);
         rules.roll(self.values, horizon);
     }
 }

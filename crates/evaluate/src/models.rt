@@ -10,7 +10,7 @@ ghost use Rattle.evaluate.specs.Grids.{Roomy, row as row_of};
 ghost use Rattle.evaluate.specs.Levels.{level_of};
 ghost use Rattle.evaluate.specs.Meanings.{meanings};
 
-use crate::grid::WIDTH;
+use crate::grid::{Grid, WIDTH};
 use crate::indexed::Indexed;
 use truth::form::TruthForm;
 use truth::three::Three;
@@ -99,6 +99,6 @@ pub fn model(
     }
     put_position(position, values);
     put_moves(rules, joint, values);
-    rules.evaluate(values, 0);
+    Grid { values }.evaluate(rules, 0);
     Ok(())
 }

@@ -99,7 +99,7 @@ pub fn run(rt: &HostRuntime, rules: &Loaded, calls: &[Call<'_>]) -> io::Result<(
         Err(Refusal::Memory) => return files::no_memory(rt),
     };
     println!(rt; "{}", Summary(docket.rules().layout()))?;
-    let mut session = Session::new(rt.alloc(), docket)?;
+    let mut session = Session::new(rt.alloc(), &docket)?;
     let mut worst = Outcome::Answered;
     for call in calls {
         worst = worst.max(session.run(rt, *call)?);
@@ -110,17 +110,17 @@ pub fn run(rt: &HostRuntime, rules: &Loaded, calls: &[Call<'_>]) -> io::Result<(
     }
 }
 
-// A docket, and the memories that its calls are lent.
+// A docket, and the memories that its calls are lent. The docket is borrowed: moved in here it would stand on the stack twice.
 #[derive(Drop)]
-pub struct Session {
-    docket: Docket,
+pub struct Session<'d> {
+    docket: &'d Docket,
     settings: Vec<u8>,
     values: Vec<Wide>,
     cases: Vec<Case>,
 }
 
-impl Session {
-    pub fn new(heap: Global, docket: Docket) -> Result<Session, AllocError> {
+impl<'d> Session<'d> {
+    pub fn new(heap: Global, docket: &'d Docket) -> Result<Session<'d>, AllocError> {
         Ok(Session {
             docket,
             settings: vec![in heap; 0; SETTINGS]?,
@@ -137,7 +137,7 @@ impl Session {
         plays: &'a [u8],
     ) -> Result<Marked<'a>, TrialFault> {
         let answer = trial(
-            &self.docket,
+            self.docket,
             part,
             property,
             plays,

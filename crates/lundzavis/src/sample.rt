@@ -48,7 +48,7 @@ pub fn trial(rt: &HostRuntime) -> io::Result<()> {
     let Ok(docket) = open(heap, &SECOND) else {
         return println!(rt; "error: the second worked file is refused");
     };
-    let mut session = Session::new(heap, docket)?;
+    let mut session = Session::new(heap, &docket)?;
     match session.tried(Part::Step, &NOT_BOTH, plays.as_slice()) {
         Ok(marked) => println!(rt; "{marked}"),
         Err(_) => println!(rt; "error: the trial of the worked plays is refused"),

@@ -1,12 +1,16 @@
 -- Entries of the table, where some are written and others stay.
-use Rattle.std.proofs.Common.{◌≡◌, ℕ, zero, suc, ◌+◌, ◌-◌, ◌<◌, ◌≤◌, ◌⊎◌, List, [], ◌∷◌, map, length, get_or, set, sym, ap, ◌∙◌, subst, inl, inr, arith}
+use Rattle.std.proofs.Common.{◌≡◌, ℕ, zero, suc, ◌+◌, ◌-◌, ◌*◌, ◌<◌, ◌≤◌, ◌⊎◌, List, [], ◌∷◌, map, length, get_or, set, sym, ap, ◌∙◌, subst, inl, inr, arith}
 use Rattle.std.proofs.lemmas.List.{get_or-set_same, get_or-set_other, length-map, map-set}
 use Rattle.std.proofs.lemmas.Bool.{cases_eq, cases_order}
 use Rattle.rules.specs.declared.opened.Rules.{Rules}
+use Rattle.rules.specs.Opens.{atoms_of}
 use Rattle.evaluate.specs.Evaluate.{Ops, look}
+use Rattle.evaluate.specs.Grids.{place}
+use Rattle.evaluate.proofs.Chains.{few_atoms}
+use Rattle.evaluate.proofs.Rows.{row_same}
 use Rattle.property.specs.declared.records.Record.{Record}
 use Rattle.property.specs.Trees.{reading_at}
-use Rattle.parts.specs.Tables.{place_in_table, KeptBesideLevel, FilledBehind, FilledFrom}
+use Rattle.parts.specs.Tables.{place_in_table, table_start, Spacious, KeptBesideTable, KeptBesideLevel, LevelIn, LevelsIn, FilledBehind, FilledFrom}
 use Rattle.parts.specs.Values.{value}
 
 -- a place that stays, stays in what is meant
@@ -15,6 +19,17 @@ same_place m e [] ys i h h' s = absurd (omega arith)
 same_place m e (x ∷ xs) [] i h h' s = absurd (omega arith)
 same_place m e (x ∷ xs) (y ∷ ys) zero h h' s = ap m (s x)
 same_place m e (x ∷ xs) (y ∷ ys) (suc i) h h' s = same_place m e xs ys i (omega arith) (omega arith) s
+
+-- a slice that is kept beside its table keeps its levels
+module _ {X V : Type 0} (means : X → V) (R : Rules) (L : ℕ → List V) (xs ys : List X) (len : length ys ≡ length xs) (room : Spacious xs) where
+  pub level_kept : ((i : ℕ) (d : X) → i < table_start → get_or ys i d ≡ get_or xs i d) → (level : ℕ) → level < 5 → LevelIn means R xs L level → LevelIn means R ys L level
+  level_kept kept level h is =
+      let n = length (atoms_of R) in
+      let long : level * 512 + n ≤ length xs = omega (arith, few_atoms R) in
+      ap (map means) (row_same n xs ys level len long (λ a d l. kept (place level a) d (omega (arith, few_atoms R)))) ∙ is
+
+  pub levels_kept : KeptBesideTable xs ys → (horizon : ℕ) → horizon < 5 → LevelsIn means R xs L horizon → LevelsIn means R ys L horizon
+  levels_kept kept horizon h is level l = level_kept (λ i d u. kept i d (inl u)) level (omega arith) (is level l)
 
 module _ {X V : Type 0} (o : Ops V) (means : X → V) (R : Rules) (rs : List Record) (L : ℕ → List V) (few : length rs ≤ 64) (xs ys : List X) (whole : length xs ≡ 320) (still_whole : length ys ≡ 320) where
   pub filled_kept : (level left i : ℕ) → level < 5 → ((k : ℕ) (d : X) → 0 < k → k ≤ 64 → get_or ys (place_in_table level k) d ≡ get_or xs (place_in_table level k) d)

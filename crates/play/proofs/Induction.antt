@@ -1,7 +1,7 @@
 -- A property whose base and step hold is true everywhere.
-use Rattle.std.proofs.Common.{◌≡◌, ◌+◌, ◌≤◌, true, false, List, get_or, refl, subst, arith}
+use Rattle.std.proofs.Common.{◌≡◌, ◌+◌, ◌≤◌, true, false, List, [], ◌∷◌, get_or, refl, subst, inl, inr, arith}
 use Rattle.std.specs.List.{All, AllByRecursion}
-use Rattle.std.proofs.lemmas.Bool.{leb-true}
+use Rattle.std.proofs.lemmas.Bool.{cases_Bool, leb-true, leb-false}
 use Rattle.std.proofs.lemmas.List.Elements.{All-from_recursion, recursion_from_All, All-nil, All-push, All-filter, filter_passes}
 use Rattle.evaluate.specs.Positions.{Game}
 use Rattle.property.specs.Trees.{Property, degree}
@@ -14,11 +14,29 @@ use Rattle.play.proofs.Prefixes.{complete_on, longer_sequences_satisfy}
 use Rattle.play.proofs.Parts.{StepsFrom, base_true, true_base, step_true}
 
 -- each assumed property has a degree of at most n + 1
-pub assumed_shallow : (p : Property) (docket : List Property) → All (λ q. degree q ≤ degree p + 1) (assumed p docket)
-assumed_shallow p docket k d lt =
+shallow_each : (p : Property) (docket : List Property) → All (λ q. degree q ≤ degree p + 1) (assumed p docket)
+shallow_each p docket k d lt =
     leb-true _ (degree p + 1) (filter_passes (λ q. may_assume (degree p) (degree q)) docket k d lt)
 
-module _ {Pos Joint : Type 0} (G : Game Pos Joint) (qs : List Property) (p : Property) (shallow : All (λ q. degree q ≤ degree p + 1) qs) where
+pub assumed_shallow : (p : Property) (docket : List Property) → AllByRecursion (λ q. degree q ≤ degree p + 1) (assumed p docket)
+assumed_shallow p docket = recursion_from_All (λ q. degree q ≤ degree p + 1) (assumed p docket) (shallow_each p docket)
+
+-- what holds of each assumed property, said of the docket, and back
+pub all_assumed : (P : Property → Type 0) (p : Property) (docket : List Property) → AllByRecursion (λ q. degree q ≤ degree p + 1 → P q) docket → AllByRecursion P (assumed p docket)
+all_assumed P p docket h =
+    let shallow : Property → Type 0 = λ q. degree q ≤ degree p + 1 → P q in
+    recursion_from_All P (assumed p docket) (λ k d lt.
+    All-filter (λ q. may_assume (degree p) (degree q)) shallow docket (All-from_recursion shallow docket h) k d lt (shallow_each p docket k d lt))
+
+pub assumed_all : (P : Property → Type 0) (p : Property) (docket : List Property) → AllByRecursion P (assumed p docket) → AllByRecursion (λ q. degree q ≤ degree p + 1 → P q) docket
+assumed_all P p [] h = tt
+assumed_all P p (q ∷ docket) h =
+    elim (cases_Bool (may_assume (degree p) (degree q))) [
+      | inl e ↦ let k : P q × AllByRecursion P (assumed p docket) = rw e at h in (λ _. k.0, assumed_all P p docket k.1)
+      | inr e ↦ let k : AllByRecursion P (assumed p docket) = rw e at h in (λ l. absurd (omega (arith, leb-false (degree q) (degree p + 1) e)), assumed_all P p docket k)
+    ]
+
+module _ {Pos Joint : Type 0} (G : Game Pos Joint) (qs : List Property) (p : Property) (shallow : AllByRecursion (λ q. degree q ≤ degree p + 1) qs) where
   -- one legal move on
   true_next : {S : Pos} → StepsFrom G qs p S → All (λ q. TrueAt G q S) qs → TrueAt G p S → (A : Joint) → ended G S ≡ false → G.legal S A ≡ true → TrueAt G p (G.next S A)
   true_next {S} steps beside here A t l τ c =
@@ -26,7 +44,7 @@ module _ {Pos Joint : Type 0} (G : Game Pos Joint) (qs : List Property) (p : Pro
       let d : Complete G (degree p + 1) σ = complete_on G A t l τ (degree p) (degree p + 1) refl c in
       steps σ d (longer_sequences_satisfy G p S here (degree p + 1) (omega arith) σ d)
       (recursion_from_All (λ q. satisfied G q S (behind G σ) ≡ true) qs
-      (λ k e lt. longer_sequences_satisfy G (get_or qs k e) S (beside k e lt) (degree p + 1) (shallow k e lt) σ d))
+      (λ k e lt. longer_sequences_satisfy G (get_or qs k e) S (beside k e lt) (degree p + 1) (All-from_recursion (λ q. degree q ≤ degree p + 1) qs shallow k e lt) σ d))
 
   -- along a sequence
   true_along : {S : Pos} (σ : Sequence G S) → ((τ : Sequence G S) → StepsFrom G qs p (reached G τ)) → ((τ : Sequence G S) → All (λ q. TrueAt G q (reached G τ)) qs) → TrueAt G p S → TrueAt G p (reached G σ)
@@ -49,11 +67,14 @@ module _ {Pos Joint : Type 0} (G : Game Pos Joint) where
   induction any docket p beside base step =
       induction_from G (assumed p docket) p (assumed_shallow p docket) any beside base (λ S μ r. step (record { start = S; joints = μ }))
 
-  -- beside a docket of which all is true everywhere
-  induction_beside : Joint → (docket : List Property) (p : Property) → All (TrueEverywhere G) docket → Holds G Base docket p → Holds G Step docket p → TrueEverywhere G p
-  induction_beside any docket p beside =
+  beside_all : Joint → (docket : List Property) (p : Property) → All (TrueEverywhere G) docket → Holds G Base docket p → Holds G Step docket p → TrueEverywhere G p
+  beside_all any docket p beside =
       let assumed_true = All-filter (λ q. may_assume (degree p) (degree q)) (TrueEverywhere G) docket beside in
       induction any docket p (recursion_from_All (TrueEverywhere G) (assumed p docket) assumed_true)
+
+  -- beside a docket of which all is true everywhere
+  pub induction_beside : Joint → (docket : List Property) (p : Property) → AllByRecursion (TrueEverywhere G) docket → Holds G Base docket p → Holds G Step docket p → TrueEverywhere G p
+  induction_beside any docket p beside = beside_all any docket p (All-from_recursion (TrueEverywhere G) docket beside)
 
   pub dockets_are_true : DocketsAreTrue G
   dockets_are_true any docket grown = recursion_from_All (TrueEverywhere G) docket (grown_true grown)
@@ -61,7 +82,7 @@ module _ {Pos Joint : Type 0} (G : Game Pos Joint) where
       grown_true : {ds : List Property} → Grown G ds → All (TrueEverywhere G) ds
       grown_true empty = All-nil (TrueEverywhere G)
       grown_true (added {docket = ds} p g base step) =
-          All-push (TrueEverywhere G) ds p (grown_true g) (induction_beside any ds p (grown_true g) base step)
+          All-push (TrueEverywhere G) ds p (grown_true g) (beside_all any ds p (grown_true g) base step)
 
   pub broken_base_refutes : BrokenBaseRefutes G
   broken_base_refutes docket p play b everywhere =

@@ -95,7 +95,7 @@ module _ {closed : List ℕ → Bool} {inp : Inputs} {c₀ : List ℕ} where
                 };
           }
 
-      drafting_full : 0 < needed (plain_from closed inp (first_input inp + length s) c) → room ≤ at → room < needed (drawn closed inp c₀)
+      pub drafting_full : 0 < needed (plain_from closed inp (first_input inp + length s) c) → room ≤ at → room < needed (drawn closed inp c₀)
       drafting_full n l = let u = up_needs closed inp c₀ s (first_input inp + length s) at c w.state.0 in omega arith
 
       pub full_closed : closed c ≡ true → room ≤ at → room < needed (drawn closed inp c₀)
@@ -249,6 +249,9 @@ module _ {closed : List ℕ → Bool} {inp : Inputs} {c₀ : List ℕ} where
 -- The room that an area has.
 pub places_fit : (a : List ℕ) (room : ℕ) → room ≡ places a → (8 * room ≤ length a) × (room ≤ 65535)
 places_fit a room e = grind (arith, nat_tests)
+
+pub places_same : (a b : List ℕ) → length a ≡ length b → places a ≡ places b
+places_same a b e = ap (λ n. cond (ltb (n / 8) 65535) (n / 8) 65535) e
 
 -- The three ways out.
 module _ (inp : Inputs) (n p room : ℕ) (r : room ≡ p) where

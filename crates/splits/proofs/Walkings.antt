@@ -20,7 +20,7 @@ pub record Walking (closed : List ℕ → Bool) (inp : Inputs) (bs c₀ : List �
   pub to_come : pending closed inp bs (entries inp - length s) c s i over ≡ walked closed inp bs c₀
 
 -- a split is by an open input
-split_open : (inp : Inputs) (bs c : List ℕ) (i k : ℕ) → Ok (Some k) ≡ input_at inp bs c i → (k < entries inp) × (get_or c k 0 ≡ 0)
+pub split_open : (inp : Inputs) (bs c : List ℕ) (i k : ℕ) → Ok (Some k) ≡ input_at inp bs c i → (k < entries inp) × (get_or c k 0 ≡ 0)
 split_open inp bs c i k e = let p = split_input_open inp bs c i k e in (p.0.1, p.1)
 
 -- none is left of n where there are m

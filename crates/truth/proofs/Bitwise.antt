@@ -1,9 +1,9 @@
 -- What the bitwise operations do to each bit.
-use Rattle.std.proofs.Common.{◌≡◌, ℕ, ◌-◌, ◌^◌, ◌<◌, true, false, not, ◌&&◌, ◌||◌, eqb, min, max, sym, ap, ◌∙◌, arith}
+use Rattle.std.proofs.Common.{◌≡◌, ℕ, zero, suc, ◌-◌, ◌/◌, ◌^◌, ◌<◌, true, false, not, ◌&&◌, ◌||◌, eqb, min, max, sym, ap, ◌∙◌, arith}
 use lib.Bits.{bit_and, bit_or}
-use Rattle.std.specs.Int.{bit_at, w64}
-use Rattle.std.proofs.lemmas.Nat.{pow_pos}
-use Rattle.std.proofs.lemmas.Nat.Bits.{bit_at-lt, bit_at-zero, bit_at_and, bit_at_or, bit_at_not, bit_at_ones, same_from_bits_below}
+use Rattle.std.specs.Int.{bit_at}
+use Rattle.std.proofs.lemmas.Nat.{pow-add, pow_pos}
+use Rattle.std.proofs.lemmas.Nat.Bits.{bit_at_lowest, bit_at-suc, bit_at-lt, bit_at-zero, bit_at_and, bit_at_or, bit_at_ones, same_from_bits_below}
 use Rattle.truth.specs.Bit.{bit}
 
 least_digit : (x y : ℕ) → x < 2 → y < 2 → eqb (min x y) 1 ≡ (eqb x 1 && eqb y 1)
@@ -27,13 +27,22 @@ bit-or a b k = ap (λ n. eqb n 1) (bit_at_or a b k) ∙ most_digit (bit_at a k) 
 pub bit_zero : (k : ℕ) → bit 0 k ≡ false
 bit_zero k = ap (λ n. eqb n 1) (bit_at-zero k)
 
-pub bit_complement : (a k : ℕ) → a < 2 ^ 64 → k < 64 → bit (2 ^ 64 - 1 - a) k ≡ not (bit a k)
-bit_complement a k h l = ap (λ n. eqb n 1) (bit_at_not w64 a k h l) ∙ other_digit (bit_at a k) (bit_at-lt a k)
+bit_at_complement : (n a k : ℕ) → a < 2 ^ n → k < n → bit_at (2 ^ n - 1 - a) k ≡ 1 - bit_at a k
+bit_at_complement zero a k h l = absurd (omega arith)
+bit_at_complement (suc n) a zero h l = omega (arith, bit_at_lowest (2 ^ suc n - 1 - a), bit_at_lowest a, pow-add 2 1 n)
+bit_at_complement (suc n) a (suc k) h l =
+    let p = pow-add 2 1 n in
+    let half : (2 ^ suc n - 1 - a) / 2 ≡ 2 ^ n - 1 - a / 2 = omega arith in
+    bit_at-suc _ k ∙ ap (λ x. bit_at x k) half ∙ bit_at_complement n (a / 2) k (omega arith) (omega arith) ∙ ap (λ d. 1 - d) (sym (bit_at-suc a k))
 
-pub bit_ones : (k : ℕ) → k < 64 → bit (2 ^ 64 - 1) k ≡ true
-bit_ones k h = ap (λ n. eqb n 1) (bit_at_ones 64 k h)
+-- the complement in n bits
+pub bit_complement : (n a k : ℕ) → a < 2 ^ n → k < n → bit (2 ^ n - 1 - a) k ≡ not (bit a k)
+bit_complement n a k h l = ap (λ x. eqb x 1) (bit_at_complement n a k h l) ∙ other_digit (bit_at a k) (bit_at-lt a k)
 
--- a number none of whose 64 bits are set is 0
-pub no_bits : (a : ℕ) → a < 2 ^ 64 → ((k : ℕ) → k < 64 → bit a k ≡ false) → a ≡ 0
-no_bits a h f =
-    same_from_bits_below 64 a 0 h (pow_pos 64) (λ k l. no_digit (bit_at a k) (bit_at-lt a k) (f k l) ∙ sym (bit_at-zero k))
+pub bit_ones : (n k : ℕ) → k < n → bit (2 ^ n - 1) k ≡ true
+bit_ones n k h = ap (λ x. eqb x 1) (bit_at_ones n k h)
+
+-- a number whose low n bits are all of it, and none of them set, is 0
+pub no_bits : (n a : ℕ) → a < 2 ^ n → ((k : ℕ) → k < n → bit a k ≡ false) → a ≡ 0
+no_bits n a h f =
+    same_from_bits_below n a 0 h (pow_pos n) (λ k l. no_digit (bit_at a k) (bit_at-lt a k) (f k l) ∙ sym (bit_at-zero k))

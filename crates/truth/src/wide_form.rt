@@ -28,7 +28,7 @@ impl Wide {
     }
 }
 
-#[tactic(auto, using(crate::proofs::Bitwise::bit_ones, crate::proofs::Bitwise::bit_zero))]
+#[tactic(auto, using(crate::proofs::Wides::every_world, crate::proofs::Bitwise::bit_zero))]
 impl TruthForm for Wide {
     ghost World = { Place };
 

@@ -1,4 +1,4 @@
-use Rattle.std.proofs.Common.{◌≡◌, ℕ, ◌+◌, ◌*◌, ◌<◌, ◌≤◌, ltb, length, get_or, sym, ap, ◌∙◌, arith}
+use Rattle.std.proofs.Common.{◌≡◌, ℕ, ◌+◌, ◌*◌, ◌<◌, ◌≤◌, ltb, length, get_or, sym, ap, ◌∙◌, arith, rules}
 use Rattle.std.proofs.lemmas.Bool.{cond-true, lt-ltb}
 use Rattle.truth.specs.declared.three.Three.TheVariants.{No}
 use Rattle.rules.specs.Opens.{moves_of}
@@ -26,7 +26,7 @@ returns-clause-standard c =
     let S = c.args.position.now in
     let js = c.args.joint.now in
     let ws = c.put_moves.new.values in
-    let xs = c.evaluate.new.values in
+    let xs = c.evaluate.new.self.values.now in
     let F : length S ≡ fluents R = c.if-position-fluents.false ∙ c.from-fluents.ensures ∙ ap (λ y. y.fluents) c.layout.ensures in
     let long : 0 * 512 + n ≤ length ws = omega (arith, few_atoms R) in
     let long' : 0 * 512 + n ≤ length xs = omega (arith, few_atoms R) in
@@ -42,5 +42,6 @@ returns-clause-standard c =
     row_at n ws 0 (does_at R k) No i ∙ ap (λ j. get_or ws j No) e ∙ c.put_moves.ensures.does k No l
     ∙ ap answer (ap (λ ms. chosen (moves_of R) ms k) (sym made) ∙ chosen_does A k) in
     let e : 0 * 512 + a ≡ a = omega arith in
-    ap (λ j. get_or xs j No) (sym e) ∙ sym (row_at n xs 0 a No h)
+    let same : c.values-3-1.given.0 ≡ xs = search rules in
+    ap (λ l. get_or l a No) same ∙ ap (λ j. get_or xs j No) (sym e) ∙ sym (row_at n xs 0 a No h)
     ∙ row_shows R S A M m (row n ws 0) (row n xs 0) (row_length n ws 0 long) (row_length n xs 0 long') start doing c.evaluate.ensures.values a h

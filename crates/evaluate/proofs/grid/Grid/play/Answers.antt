@@ -18,7 +18,7 @@ returns-clause-values g c =
     let was = c.args.self.now.values.now in
     let e = c.evaluate.ensures in
     λ k h. c.roll.ensures.values k h ∙ from_same o R _ _ _ _ e.values k (λ j c' p l.
-    ap (λ z. look o (map t.means z) (does_at R c')) (row_kept_last (size I) was c.evaluate.new.values j (few_atoms R) c.evaluate.auto.values (row_within I was j (omega (arith, c.requires.horizon)) c.requires.room) 0 (λ q. omega arith) (λ q. omega (arith, c.requires.horizon)) e.kept))
+    ap (λ z. look o (map t.means z) (does_at R c')) (row_kept_last (size I) was c.evaluate.new.self.values.now j (few_atoms R) e.len (row_within I was j (omega (arith, c.requires.horizon)) c.requires.room) 0 (λ q. omega arith) (λ q. omega (arith, c.requires.horizon)) e.kept))
 
 pub returns-clause-kept : goal.returns-clause-kept
 returns-clause-kept g c = λ i d out out'. c.roll.ensures.kept i d out out' ∙ c.evaluate.ensures.kept i d (out 0 (omega arith)) out'

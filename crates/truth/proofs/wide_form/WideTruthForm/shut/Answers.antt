@@ -11,5 +11,5 @@ returns c =
     let fits : a.yes < 2 ^ 64 = search rules in
     record {
       sound = λ e w. only_no_from (bit a.yes w.at) (bit a.no w.at) (a.answered w.at w.below) (ap (λ (n : ℕ). bit n w.at) (eqb-true a.yes 0 e) ∙ bit_zero w.at);
-      complete = λ all. eq-eqb a.yes 0 (no_bits a.yes fits (λ k h. only_no_then (bit a.yes k) (bit a.no k) (all (record { at = k; below = h }))));
+      complete = λ all. eq-eqb a.yes 0 (no_bits 64 a.yes fits (λ k h. only_no_then (bit a.yes k) (bit a.no k) (all (record { at = k; below = h }))));
     }
