@@ -1,6 +1,6 @@
 -- The numbers below a limit that pass a test.
 use Rattle.std.proofs.Common.{◌≡◌, ℕ, zero, suc, ◌+◌, ◌-◌, ◌<◌, Bool, true, false, cond, List, [], ◌∷◌, ◌++◌, length, get_or, sym, refl, ap, ◌∙◌, inl, inr, add-one, arith}
-use Rattle.std.proofs.lemmas.List.{append-nil, length-append, get_or_append_left, get_or-append_right}
+use Rattle.std.proofs.lemmas.List.{append-nil, append_assoc, length-append, get_or_append_left, get_or-append_right}
 use Rattle.std.proofs.lemmas.Bool.{cond-true, cond-false, cases_lt}
 use Rattle.evaluate.specs.Lists.{tally, passing}
 
@@ -12,13 +12,16 @@ pub passing_suc : (p : ℕ → Bool) (n : ℕ) → passing (n + 1) p ≡ passing
 unfolding passing
 passing_suc p n = rw add-one refl
 
--- a loop that pushes those that pass
-module _ (p : ℕ → Bool) (n : ℕ) (now : List ℕ) (e : now ≡ passing n p) where
-  pub passing_more : (after : List ℕ) → p n ≡ true → after ≡ now ++ n ∷ [] → after ≡ passing (n + 1) p
-  passing_more after t f = f ∙ ap (λ l. l ++ n ∷ []) e ∙ sym (passing_suc p n ∙ ap (λ l. passing n p ++ l) (cond-true (p n) (n ∷ []) [] t))
+module _ (p : ℕ → Bool) (n : ℕ) (before now : List ℕ) (e : now ≡ before ++ passing n p) where
+  -- a loop that pushes those that pass
+  pub passing_more : (after : List ℕ) → p n ≡ true → after ≡ now ++ n ∷ [] → after ≡ before ++ passing (n + 1) p
+  passing_more after t f =
+      f ∙ ap (λ l. l ++ n ∷ []) e ∙ append_assoc before (passing n p) (n ∷ [])
+      ∙ ap (λ l. before ++ l) (sym (passing_suc p n ∙ ap (λ l. passing n p ++ l) (cond-true (p n) (n ∷ []) [] t)))
 
-  pub passing_same : p n ≡ false → now ≡ passing (n + 1) p
-  passing_same t = e ∙ sym (passing_suc p n ∙ ap (λ l. passing n p ++ l) (cond-false (p n) (n ∷ []) [] t) ∙ append-nil (passing n p))
+  pub passing_same : p n ≡ false → now ≡ before ++ passing (n + 1) p
+  passing_same t =
+      e ∙ ap (λ l. before ++ l) (sym (passing_suc p n ∙ ap (λ l. passing n p ++ l) (cond-false (p n) (n ∷ []) [] t) ∙ append-nil (passing n p)))
 
 bit_length : (b : Bool) (n : ℕ) → length (cond b (n ∷ []) []) ≡ cond b 1 0
 bit_length true n = refl

@@ -47,7 +47,7 @@ impl<'a> Indexed<'a> {
         ensures kept { KeptButLast (size self.entry) (level + 1) values.old values.new }
     {
         self.carry(values, level);
-        self.evaluate(values, level + 1);
+        Grid { values }.evaluate(self, level + 1);
     }
 
     // The levels after the first.

@@ -70,7 +70,7 @@ module _ {closed : List ℕ → Bool} {inp : Inputs} {bs c₀ : List ℕ} where
         let p = split_open inp bs c i k q in
         (p.0, standing_room inp (length bs / 8) c₀ c s k l w.standing p.0 p.1)
 
-    pub walking_split : (k : ℕ) → entries inp ≤ length c → ((n : ℕ) → 0 < branch_count inp n) → i < length bs / 8 → Ok (Some k) ≡ input_at inp bs c i
+    pub walking_split : (k : ℕ) → entries inp ≤ length c → ((n : ℕ) → n < entries inp → 0 < branch_count inp n) → i < length bs / 8 → Ok (Some k) ≡ input_at inp bs c i
         → Walking closed inp bs c₀ (i + 1) (set c k 1) (record { input = k; branch = 0; number = i } ∷ s) None
     walking_split k l n h q =
         let p = split_open inp bs c i k q in
@@ -78,12 +78,12 @@ module _ {closed : List ℕ → Bool} {inp : Inputs} {bs c₀ : List ℕ} where
         let u : set (set c k 1) k 0 ≡ c = set-set c k 1 0 ∙ (ap (set c k) (sym p.1) ∙ set-get_or c k 0) in
         let v : 0 < get_or (set c k 1) k 0 = rw (get_or-set_same c k 1 0 (omega arith)) (omega arith) in
         let r : entries inp - length s ≡ suc (entries inp - suc (length s)) = omega arith in
-        let t = pending_split closed inp bs i c (entries inp - suc (length s)) s k h q (n k) p.1 in
+        let t = pending_split closed inp bs i c (entries inp - suc (length s)) s k h q (n k p.0) p.1 in
         record {
           within = omega arith;
           shallow = omega arith;
           behind = tt;
-          standing = (h, p.0, n k, v, subst (λ y. Standing inp (length bs / 8) c₀ y s) (sym u) w.standing);
+          standing = (h, p.0, n k p.0, v, subst (λ y. Standing inp (length bs / 8) c₀ y s) (sym u) w.standing);
           to_come = sym t ∙ (ap (λ y. pending closed inp bs y c s i None) (sym r) ∙ w.to_come);
         }
 

@@ -35,7 +35,7 @@ loop-over-preserved-in-None g c =
     let v = walking_same c.loop-over.invariant.walking refl refl c.in-None.is in
     elim c.match-split.branch [
       | in-Some-split w ↦
-          let n = walking_split v w.in-Some-split.input (omega arith) (branch_some _ (proper c.args.shape)) c.if-at-records.false (ap Ok (sym w.in-Some-split.is) ∙ c.in_ok-split-in-None.ensures) in
+          let n = walking_split v w.in-Some-split.input (omega arith) (λ m _. branch_some _ (proper c.args.shape) m) c.if-at-records.false (ap Ok (sym w.in-Some-split.is) ∙ c.in_ok-split-in-None.ensures) in
           let e = w.enter.ensures.settled ∙ ap (λ o. set c.loop-over.settings o.input (o.branch + 1)) w.first.ensures in
           let f = w.enter.ensures.pushed ∙ ap (λ o. o ∷ splits c.loop-over.splits) w.first.ensures in
           rw (w.settings-is, w.judge-is, w.splits-is, w.over-is) (record { same_judge = c.loop-over.invariant.same_judge; room = omega (arith, w.enter.ensures.room, c.loop-over.invariant.room); walking = walking_same n (sym e) (sym f) (sym c.in-None.is) })
